@@ -11,7 +11,7 @@ use Rattle.sqlite_store.specs.declared.store.FileStore.{FileStore}
 use Rattle.desk_rules.specs.Books.{Books}
 use Rattle.desk_rules.specs.Content.{Content}
 use Rattle.desk_rules.specs.declared.limits.TheConstants.{MOST_ENTRIES}
-use Rattle.desk_register.specs.View.{View, fallen}
+use Rattle.desk_register.specs.View.{View, fallen, IsRead}
 use Rattle.desk_register.specs.declared.register.Fault.{Fault}
 use Rattle.desk_register.specs.declared.register.Stage.{Stage}
 use Rattle.desk_register.specs.declared.register.Stage.TheVariants.{Idle}
@@ -22,7 +22,6 @@ use Rattle.desk_mirror.specs.Both.{Both}
 use Rattle.desk_opening.specs.Opened.{view_of_both}
 use Rattle.desk_book.specs.Held.{Holds}
 use Rattle.desk_engine.specs.Ready.{IsReady, KeepsFormed}
-use Rattle.desk_register.specs.Ends.{HaveRead}
 use Rattle.desk.specs.Closed.{AreClosed}
 use Rattle.desk.specs.Left.{AreLeft, AreSaid, IsLeft, LeavesSome, PassesOn, TablesSay}
 use Rattle.desk.specs.PlayAnswer.{KeptBy}
@@ -41,14 +40,14 @@ tables_say s stage content books idle kept live same keeps = λ clean is_open.
     record { is = (live is_open).1; content = content; keeps = keeps; tables = record { desk = desk.committed; content_is = sym (same clean is_open ∙ ap content_in (desk.idle idle)) } }
 
 -- what is left of a desk its tables say
-pub said_left : {S : Type 0} (gives : Bool) (given held : Both ListRegister (Kept S)) (s : State) → held ≡ given → (view_of_both given).room ≡ MOST_ENTRIES → IsReady gives (view_of_both held)
-    → (held.stage ≡ Idle → (books : Books) → KeptBy (view_of_both held) books → TablesSay s books) → PassesOn (IsLeft gives (view_of_both given)) (AreSaid s)
-said_left {S} gives given held s is most ready say =
-    let L : Both ListRegister (Kept S) → Bool → Books → Type 0 = λ k is_closed books. Holds is_closed (view_of_both k) books in
-    let M : Both ListRegister (Kept S) → Type 0 = λ k. (view_of_both k).room ≡ MOST_ENTRIES in
+pub said_left : {S : Type 0} (store : Stores S) (gives : Bool) (given held : Both ListRegister (Kept S)) (s : State) → held ≡ given → (view_of_both store given).room ≡ MOST_ENTRIES → IsReady gives (view_of_both store held)
+    → (held.stage ≡ Idle → (books : Books) → KeptBy (view_of_both store held) books → TablesSay s books) → PassesOn (IsLeft gives (view_of_both store given)) (AreSaid s)
+said_left {S} store gives given held s is most ready say =
+    let L : Both ListRegister (Kept S) → Bool → Books → Type 0 = λ k is_closed books. Holds is_closed (view_of_both store k) books in
+    let M : Both ListRegister (Kept S) → Type 0 = λ k. (view_of_both store k).room ≡ MOST_ENTRIES in
     record {
       each = λ is_closed books left stays. (let holds = subst (λ k. L k is_closed books) (sym is) left.holds in
-          say (ready.stage (left.closed ∙ stays)) books (subst (λ k. KeepsFormed k books (view_of_both held).content) (subst M (sym is) most) (holds stays)));
+          say (ready.stage (left.closed ∙ stays)) books (subst (λ k. KeepsFormed k books (view_of_both store held).content) (subst M (sym is) most) (holds stays)));
     }
 
 -- what the tables say of a connection that was closed its files say
@@ -71,10 +70,10 @@ some_left limit books L M most on left =
 
 -- several reading calls of a register with no `begin` open: none is open behind them, and it holds what it held
 module _ {X : Type 0} (v0 v1 : View) where
-  pub have_stage : (r : Result X Fault) → v0.stage ≡ Idle → HaveRead r v0 v1 → v1.stage ≡ Idle
+  pub have_stage : (r : Result X Fault) → v0.stage ≡ Idle → IsRead r v0 v1 → v1.stage ≡ Idle
   have_stage (Ok x) idle read = read.ok.stage ∙ idle
   have_stage (Err fault) idle read = read.err.stage ∙ ap fallen idle
 
-  pub have_same : (r : Result X Fault) → v0.stage ≡ Idle → HaveRead r v0 v1 → v1.is_honest → v1.is_sure → v1.content ≡ v0.content
+  pub have_same : (r : Result X Fault) → v0.stage ≡ Idle → IsRead r v0 v1 → v1.is_honest → v1.is_sure → v1.content ≡ v0.content
   have_same (Ok x) idle read honest sure = read.same honest (read.later.sure honest sure)
   have_same (Err fault) idle read honest sure = read.err.content honest sure idle

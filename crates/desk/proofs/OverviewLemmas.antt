@@ -64,18 +64,18 @@ module _ (before mid after : Option (List ℕ)) (shown : Shown) (books : Books) 
   told_overview (Err e) format written w told = tt
 
 -- a script that was played on a new desk in memory
-pub after_script : (given before after : Option (List ℕ)) (was is : Bool) (v0 v1 : View) → v0.room ≡ MOST_ENTRIES → v1.room ≡ v0.room → was ≡ false → is ≡ false → v1.failures ≡ v0.failures → v1.failures < MOST_FAILURES → v1.is_honest
+pub after_script : (given before after : Option (List ℕ)) (was is : Bool) (v0 v1 : View) → v0.room ≡ MOST_ENTRIES → v1.room ≡ v0.room → was ≡ false → is ≡ false → v1.device.failures ≡ v0.device.failures → v1.device.failures < MOST_FAILURES → v1.is_honest → v1.device.is_honest
     → Holds was v0 no_books → IsReady is v1
     → ((books : Books) → v1.is_honest → Holds was v0 books → (script : List ℕ) × IfSome given (λ input. input ≡ script) × (length script ≤ LONGEST_SCRIPT) × PlaysScript was books script before after is v0 v1)
     → IsAfterScript given v1
-after_script given before after was is v0 v1 most room not_closed stays sound few honest holds ready played =
+after_script given before after was is v0 v1 most room not_closed stays sound few honest device holds ready played =
     let p = played no_books honest holds in
     let s = p.3 in
     let P : ℕ → Type 0 = λ k. AnsweredInTurn k was no_books (asked_in s.items) s.answers is s.played.last in
     let Q : Bool → Type 0 = λ b. AnsweredInTurn MOST_ENTRIES b no_books (asked_in s.items) s.answers is s.played.last in
     let R : Bool → Type 0 = λ b. AnsweredInTurn MOST_ENTRIES false no_books (asked_in s.items) s.answers b s.played.last in
     let run : AnsweredInTurn MOST_ENTRIES false no_books (asked_in s.items) s.answers false s.played.last = subst R stays (subst Q not_closed (subst P most s.played.in_turn)) in
-    let none = none_failed s.answers v0.failures v1.failures (s.played.blame honest few) (omega (arith, sound)) in
+    let none = none_failed s.answers v0.device.failures v1.device.failures (s.played.blame honest device few) (omega (arith, sound)) in
     record {
       script = p.0;
       books = s.played.last;

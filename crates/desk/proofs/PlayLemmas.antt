@@ -48,11 +48,11 @@ is_in_memory (Err faults.Closed) not_closed sound = cc
 pub only_memory : (answers : List (Result Reply Fault)) → All (λ answer. says_closed answer ≡ false) answers → All (λ answer. answer ≢ Err faults.Storage) answers → All IsReplyOrMemory answers
 only_memory answers not_closed sound = λ k d lt. is_in_memory (get_or answers k d) (not_closed k d lt) (sound k d lt)
 
-pub told : (r : Option (List ℕ)) (U : Type 0) (reads : Bool) (before after : Option (List ℕ)) (was is : Bool) (v0 v1 : View) → v0.room ≡ MOST_ENTRIES → v1.room ≡ v0.room → was ≡ false → is ≡ false → v1.failures ≡ v0.failures → v1.failures < MOST_FAILURES
-    → v1.is_honest → Holds was v0 no_books
+pub told : (r : Option (List ℕ)) (U : Type 0) (reads : Bool) (before after : Option (List ℕ)) (was is : Bool) (v0 v1 : View) → v0.room ≡ MOST_ENTRIES → v1.room ≡ v0.room → was ≡ false → is ≡ false → v1.device.failures ≡ v0.device.failures → v1.device.failures < MOST_FAILURES
+    → v1.is_honest → v1.device.is_honest → Holds was v0 no_books
     → ((books : Books) → v1.is_honest → Holds was v0 books → (script : List ℕ) × IfSome r (λ input. input ≡ script) × (length script ≤ LONGEST_SCRIPT) × PlaysScript was books script before after is v0 v1)
     → IsPlayAnswer r U reads exit.Done (Appends before after)
-told r U reads before after was is v0 v1 most room not_closed stays sound few honest holds played =
+told r U reads before after was is v0 v1 most room not_closed stays sound few honest device holds played =
     let p = played no_books honest holds in
     let s = p.3 in
     let P : ℕ → Type 0 = λ k. AnsweredInTurn k was no_books (asked_in s.items) s.answers is s.played.last in
@@ -60,7 +60,7 @@ told r U reads before after was is v0 v1 most room not_closed stays sound few ho
     let R : Bool → Type 0 = λ b. AnsweredInTurn MOST_ENTRIES false no_books (asked_in s.items) s.answers b s.played.last in
     let run : AnsweredInTurn MOST_ENTRIES false no_books (asked_in s.items) s.answers false s.played.last = subst R stays (subst Q not_closed (subst P most s.played.in_turn)) in
     let H : ℕ → Type 0 = λ k. Headline k s.played.last v1.content in
-    let none = none_failed s.answers v0.failures v1.failures (s.played.blame honest few) (omega (arith, sound)) in
+    let none = none_failed s.answers v0.device.failures v1.device.failures (s.played.blame honest device few) (omega (arith, sound)) in
     let is_played : IsPlayed p.0 (answers_text s.items s.answers) = record {
       items = s.items;
       answers = s.answers;

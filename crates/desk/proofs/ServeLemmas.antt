@@ -84,14 +84,15 @@ module _ {D : Type 0} (is_closed : D → Bool) (view : D → View) where
 -- no count or doubt is taken back from one connection to the next
 
 pub nothing_later : (view : View) → IsLater view view
-nothing_later view = record { honest = λ h. h; sure = λ h s. s; failures = omega arith; room = refl }
+nothing_later view = record { honest = λ h. h; sure = λ h s. s; room = refl; device_honest = λ h. h; failures = omega arith }
 
 pub later_all_along : (v0 v1 v2 : View) → IsLater v0 v1 → IsLater v1 v2 → IsLater v0 v2
 later_all_along v0 v1 v2 a b = record {
   honest = λ h. a.honest (b.honest h);
   sure = λ h s. a.sure (b.honest h) (b.sure h s);
-  failures = (let x = a.failures in let y = b.failures in omega arith);
   room = b.room ∙ a.room;
+  device_honest = λ h. a.device_honest (b.device_honest h);
+  failures = (let x = a.failures in let y = b.failures in omega arith);
 }
 
 -- how it ended over a file

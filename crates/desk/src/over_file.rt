@@ -98,11 +98,11 @@ fn over_opened<D: Disk + Drop, R: Source, W: Sink>(
     reader: &mut R,
     writer: &mut W,
 ) -> (io::Result<Status>, Result<Files<D>, Error>)
-    requires { IsReadyFor MOST_ENTRIES (view_of_both both) }
-    ensures told { (books : Books) → KeptBy (view_of_both both) books
+    requires { IsReadyFor MOST_ENTRIES (view_of_both over_files both) }
+    ensures told { (books : Books) → KeptBy (view_of_both over_files both) books
         → IfOk result.0 (λ status. IsOpenAnswer job.now (is_ok result.1) (AreLeft D.Disk result.1) books (R.remaining reader.old) (reader.new ≡ reader.old) R.may_fail status (Appends (W.contents writer.old) (W.contents writer.new))) }
     ensures answered { IfOk result.0 (λ status. IsFileAnswer job.now (R.remaining reader.old) (reader.new ≡ reader.old) R.may_fail status (Appends (W.contents writer.old) (W.contents writer.new))) }
-    ensures left { (books : Books) → KeptBy (view_of_both both) books → LeavesFiles D.Disk job.now result.0 result.1 books (R.remaining reader.old) }
+    ensures left { (books : Books) → KeptBy (view_of_both over_files both) books → LeavesFiles D.Disk job.now result.0 result.1 books (R.remaining reader.old) }
     ensures failed { OnErr result.0 (W.may_fail ≡ true) }
 {
     let mut teller = Teller::new(rt, path);
@@ -119,8 +119,8 @@ fn over_both<S: Alter + Drop, R: Source, W: Sink>(
     reader: &mut R,
     writer: &mut W,
 ) -> (io::Result<Status>, Connection<S>)
-    requires { IsReadyFor MOST_ENTRIES (view_of_both both) }
-    ensures done { IsDone job.now (KeptBy (view_of_both both)) (AreSaid (state S.Store result.1)) (R.remaining reader.old) (reader.new ≡ reader.old) R.may_fail result.0 (Appends (W.contents writer.old) (W.contents writer.new)) }
+    requires { IsReadyFor MOST_ENTRIES (view_of_both S.Store both) }
+    ensures done { IsDone job.now (KeptBy (view_of_both S.Store both)) (AreSaid (state S.Store result.1)) (R.remaining reader.old) (reader.new ≡ reader.old) R.may_fail result.0 (Appends (W.contents writer.old) (W.contents writer.new)) }
     ensures failed { OnErr result.0 (W.may_fail ≡ true) }
 {
     match job {
@@ -138,8 +138,8 @@ fn ask_on_both<S: Alter + Drop, R: Source, W: Sink>(
     reader: &mut R,
     writer: &mut W,
 ) -> (io::Result<Status>, Connection<S>)
-    requires { IsReadyFor MOST_ENTRIES (view_of_both both) }
-    ensures asked { IsAsked ask.now MOST_ENTRIES (KeptBy (view_of_both both)) (AreSaid (state S.Store result.1)) (R.remaining reader.old) (reader.new ≡ reader.old) R.may_fail result.0 (Appends (W.contents writer.old) (W.contents writer.new)) }
+    requires { IsReadyFor MOST_ENTRIES (view_of_both S.Store both) }
+    ensures asked { IsAsked ask.now MOST_ENTRIES (KeptBy (view_of_both S.Store both)) (AreSaid (state S.Store result.1)) (R.remaining reader.old) (reader.new ≡ reader.old) R.may_fail result.0 (Appends (W.contents writer.old) (W.contents writer.new)) }
     ensures failed { OnErr result.0 (W.may_fail ≡ true) }
 {
     let mut desk = Desk::new(both);

@@ -155,7 +155,7 @@ pub fn connection_of<S: Alter + Drop>(
     both: MirroredRegister<ListRegister, SqlRegister<S>>,
 ) -> Connection<S>
     ensures connection { result ≡ both.tables.connection }
-    ensures left { both.stage ≡ Idle → (books : Books) → KeptBy (view_of_both both) books → TablesSay (state S.Store result) books }
+    ensures left { both.stage ≡ Idle → (books : Books) → KeptBy (view_of_both S.Store both) books → TablesSay (state S.Store result) books }
 {
     let conn = both.into_parts().1.into_connection();
     is_live(&conn);
@@ -166,9 +166,9 @@ pub fn connection_of<S: Alter + Drop>(
 pub fn tables_of<S: Alter + Drop>(
     desk: Desk<MirroredRegister<ListRegister, SqlRegister<S>>>,
 ) -> Connection<S>
-    requires { (view_of_both desk.register).room ≡ MOST_ENTRIES }
+    requires { (view_of_both S.Store desk.register).room ≡ MOST_ENTRIES }
     ensures connection { result ≡ desk.register.tables.connection }
-    ensures left { PassesOn (IsLeft desk.is_closed (view_of_both desk.register)) (AreSaid (state S.Store result)) }
+    ensures left { PassesOn (IsLeft desk.is_closed (view_of_both S.Store desk.register)) (AreSaid (state S.Store result)) }
 {
     connection_of(desk.into_register())
 }

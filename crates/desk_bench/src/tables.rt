@@ -51,7 +51,7 @@ fn play_over_both<S: Alter + Drop>(
     rt: &HostRuntime,
     both: MirroredRegister<ListRegister, SqlRegister<S>>,
 ) -> Result<Connection<S>, Failure>
-    requires { IsReady false (view_of_both both) }
+    requires { IsReady false (view_of_both S.Store both) }
 {
     let (_, tables) = play(rt, both)?.into_parts();
     Ok(tables.into_connection())
@@ -62,7 +62,7 @@ fn play_over_tables<S: Alter + Drop>(
     rt: &HostRuntime,
     tables: SqlRegister<S>,
 ) -> Result<(), Failure>
-    requires { IsReady false (shown (state S.Store tables.connection) tables.stage tables.failures tables.room) }
+    requires { IsReady false (shown (state S.Store tables.connection) tables.stage tables.room) }
 {
     play(rt, tables)?;
     Ok(())
@@ -134,7 +134,7 @@ fn told_of_both<S: Alter + Drop>(
     rt: &HostRuntime,
     both: MirroredRegister<ListRegister, SqlRegister<S>>,
 ) -> Result<Connection<S>, Failure>
-    requires { IsReady false (view_of_both both) }
+    requires { IsReady false (view_of_both S.Store both) }
 {
     let (_, tables) = told(rt, both)?.into_parts();
     Ok(tables.into_connection())

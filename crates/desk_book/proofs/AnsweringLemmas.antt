@@ -233,6 +233,7 @@ pub ready_after : (task : Task) (r : Result Reply Fault) (old new : View) (is_cl
 ready_after task r old new is_closed is ends ready answers = record {
   stage = λ ready_yet. ends.stage (sym is ∙ ready_yet);
   sure = λ ready_yet honest. ends.sure (sym is ∙ ready_yet) honest;
+  device = λ ready_yet honest. ends.device (sym is ∙ ready_yet) honest;
   books = λ ready_yet honest.
       let kept = ready.books refl (ends.later.honest honest) in
       kept_after task r old new (sym is ∙ ready_yet) honest ends kept.0 kept.1 (answers kept.0 honest kept.1);

@@ -53,7 +53,7 @@ bad_line_played was books view holds = record {
   in_turn = (refl, refl);
   holds = holds;
   promise = promised was view books holds;
-  blame = λ honest few. refl;
+  blame = λ honest device few. refl;
 }
 
 pub bad_line_told : {E : Type 0} (was : Bool) (books : Books) (item : ScriptItem) (before after : Option (List ℕ)) (view : View) (r : Result (Unit {0}) E) → item ≡ BadLine → Holds was view books
@@ -111,7 +111,7 @@ none_so_far was books script before view holds = record {
   front = [];
   spells = λ items is. is;
   answers = [];
-  played = record { last = books; in_turn = (refl, refl); holds = holds; promise = promised was view books holds; blame = λ honest few. refl };
+  played = record { last = books; in_turn = (refl, refl); holds = holds; promise = promised was view books holds; blame = λ honest device few. refl };
   written = Appends-nil before;
 }
 

@@ -49,14 +49,15 @@ run_more limit was books requests answers is last next asked answer run stays st
 -- The loop over requests.
 
 pub never_later : (v : View) → IsLater v v
-never_later v = record { honest = λ h. h; sure = λ h s. s; failures = omega arith; room = refl }
+never_later v = record { honest = λ h. h; sure = λ h s. s; room = refl; device_honest = λ h. h; failures = omega arith }
 
 pub later_on : (v0 v1 v2 : View) → IsLater v0 v1 → IsLater v1 v2 → IsLater v0 v2
 later_on v0 v1 v2 first second = record {
   honest = λ h. first.honest (second.honest h);
   sure = λ h s. first.sure (second.honest h) (second.sure h s);
-  failures = (let a = first.failures in let b = second.failures in omega arith);
   room = second.room ∙ first.room;
+  device_honest = λ h. first.device_honest (second.device_honest h);
+  failures = (let a = first.failures in let b = second.failures in omega arith);
 }
 
 next_asked : (requests : List Request) (i : ℕ) (request : Request) → i < length requests → request ≡ get_or requests i request → map asked_by (take (i + 1) requests) ≡ map asked_by (take i requests) ++ asked_by request ∷ []
@@ -107,34 +108,34 @@ open_all_along limit was books last (asked ∷ more) (answer ∷ answers) run =
 
 -- Whose fault it was.
 
-counts : (answer : Result Reply Fault) (v0 v1 : View) → IsLater v0 v1 → BlamesRequest answer v0 v1 → IfCounted v1 (Counts answer v0.failures v1.failures)
-counts (Ok reply) v0 v1 later blame = blame.otherwise (λ e. cc) refl
-counts (Err Memory) v0 v1 later blame = blame.otherwise (λ e. cc) refl
+counts : (answer : Result Reply Fault) (v0 v1 : View) → IsLater v0 v1 → BlamesRequest answer v0 v1 → IfCounted v1 (Counts answer v0.device.failures v1.device.failures)
+counts (Ok reply) v0 v1 later blame = λ honest device few. later.failures
+counts (Err Memory) v0 v1 later blame = λ honest device few. later.failures
 counts (Err Storage) v0 v1 later blame = blame.storage refl
-counts (Err Closed) v0 v1 later blame = λ honest few. later.failures
+counts (Err Closed) v0 v1 later blame = λ honest device few. later.failures
 
-pub blamed_one : (answer : Result Reply Fault) (v0 v1 : View) → IsLater v0 v1 → BlamesRequest answer v0 v1 → IfCounted v1 (AreBlamed (answer ∷ []) v0.failures v1.failures)
-blamed_one answer v0 v1 later blame honest few = (v1.failures, counts answer v0 v1 later blame honest few, refl)
+pub blamed_one : (answer : Result Reply Fault) (v0 v1 : View) → IsLater v0 v1 → BlamesRequest answer v0 v1 → IfCounted v1 (AreBlamed (answer ∷ []) v0.device.failures v1.device.failures)
+blamed_one answer v0 v1 later blame honest device few = (v1.device.failures, counts answer v0 v1 later blame honest device few, refl)
 
 both_blamed : (answers others : List (Result Reply Fault)) (before between after : ℕ) → AreBlamed answers before between → AreBlamed others between after → AreBlamed (answers ++ others) before after
 both_blamed [] others before between after first second = (let P : ℕ → Type 0 = λ n. AreBlamed others n after in subst P first second)
 both_blamed (answer ∷ answers) others before between after first second = (first.0, first.1, both_blamed answers others first.0 between after first.2 second)
 
-pub blamed_then : (answers others : List (Result Reply Fault)) (v0 v1 v2 : View) → IsLater v1 v2 → IfCounted v1 (AreBlamed answers v0.failures v1.failures) → IfCounted v2 (AreBlamed others v1.failures v2.failures)
-    → IfCounted v2 (AreBlamed (answers ++ others) v0.failures v2.failures)
-blamed_then answers others v0 v1 v2 later before now honest few =
+pub blamed_then : (answers others : List (Result Reply Fault)) (v0 v1 v2 : View) → IsLater v1 v2 → IfCounted v1 (AreBlamed answers v0.device.failures v1.device.failures) → IfCounted v2 (AreBlamed others v1.device.failures v2.device.failures)
+    → IfCounted v2 (AreBlamed (answers ++ others) v0.device.failures v2.device.failures)
+blamed_then answers others v0 v1 v2 later before now honest device few =
     let le = later.failures in
-    both_blamed answers others v0.failures v1.failures v2.failures (before (later.honest honest) (omega arith)) (now honest few)
+    both_blamed answers others v0.device.failures v1.device.failures v2.device.failures (before (later.honest honest) (later.device_honest device) (omega arith)) (now honest device few)
 
-pub blamed : (v0 v1 v2 : View) (answers : List (Result Reply Fault)) (answer : Result Reply Fault) → IsLater v1 v2 → IfCounted v1 (AreBlamed answers v0.failures v1.failures) → BlamesRequest answer v1 v2
-    → IfCounted v2 (AreBlamed (answers ++ answer ∷ []) v0.failures v2.failures)
+pub blamed : (v0 v1 v2 : View) (answers : List (Result Reply Fault)) (answer : Result Reply Fault) → IsLater v1 v2 → IfCounted v1 (AreBlamed answers v0.device.failures v1.device.failures) → BlamesRequest answer v1 v2
+    → IfCounted v2 (AreBlamed (answers ++ answer ∷ []) v0.device.failures v2.device.failures)
 blamed v0 v1 v2 answers answer later before now = blamed_then answers (answer ∷ []) v0 v1 v2 later before (blamed_one answer v1 v2 later now)
 
 -- The count never shrinks, and where it stays no answer tells that the device failed.
 
 counts_up : (answer : Result Reply Fault) (before after : ℕ) → Counts answer before after → before ≤ after
-counts_up (Ok reply) before after counted = omega arith
-counts_up (Err Memory) before after counted = omega arith
+counts_up (Ok reply) before after counted = counted
+counts_up (Err Memory) before after counted = counted
 counts_up (Err Storage) before after counted = omega arith
 counts_up (Err Closed) before after counted = counted
 

@@ -19,7 +19,7 @@ use Rattle.desk_register.specs.View.{HasRead, IsLater, IsRead, View}
 use Rattle.desk_engine.specs.Applied.{Keeps}
 use Rattle.desk_register.specs.declared.fault.WalkFault.{WalkFault}
 use Rattle.desk_register.specs.declared.fault.WalkFault.TheVariants as walks
-use Rattle.desk_register.specs.Ends.{HaveRead, broken_off}
+use Rattle.desk_register.specs.Ends.{broken_off}
 use Rattle.desk_register.proofs.ReadLemmas.{held_so, kept_so, read_more, read_none}
 use Rattle.desk_register.proofs.ReadingLemmas.{read_on}
 use Rattle.desk_book.specs.Answered.{IsToldSums}
@@ -117,7 +117,7 @@ cashing_begins v0 before = record {
 }
 
 module _ (v0 v : View) (turns : ℕ) (was_later : Bool) (before between : Option (List ℕ)) (s : Cashing v0 v turns was_later before between) where
-  pub cashing_goes_on : (v1 : View) (is_later : Bool) (now : Option (List ℕ)) (ccy : Ccy) → place_of ccy ≡ turns → HaveRead {X = Unit {0}} (Ok tt) v v1
+  pub cashing_goes_on : (v1 : View) (is_later : Bool) (now : Option (List ℕ)) (ccy : Ccy) → place_of ccy ≡ turns → IsRead {X = Unit {0}} (Ok tt) v v1
       → (v1.is_honest → v.is_sure → WritesCurrency v.content ccy was_later (Ok is_later) between now) → Cashing v0 v1 (turns + 1) is_later before now
   cashing_goes_on v1 is_later now ccy at read writes = record {
     read = read_on v0 v s.read tt v1 read;
@@ -202,7 +202,7 @@ module _ (v0 v : View) (count : ℕ) (last : Option (List ℕ)) (turns : ℕ) (b
     is_known : v1.is_honest → v0.is_sure → is_some (kind_of (history_of v1.content) isin) ≡ true
     is_known honest sure = kept_so v0 v1 (read_more (Some isin) v0 v v1 s.read first) (λ c. is_some (kind_of (history_of c) isin) ≡ true) honest sure (is_next honest sure).0.0
 
-    pub listing_goes_on : (now : Option (List ℕ)) → HaveRead {X = Unit {0}} (Ok tt) v1 v2
+    pub listing_goes_on : (now : Option (List ℕ)) → IsRead {X = Unit {0}} (Ok tt) v1 v2
         → (v2.is_honest → v1.is_sure → is_some (kind_of (history_of v1.content) isin) ≡ true → WritesTotal v1.content isin (is_some last) between now) → Listing v0 v2 count (Some isin) (turns + 1) before now
     listing_goes_on now second writes =
         let read1 = read_more (Some isin) v0 v v1 s.read first in

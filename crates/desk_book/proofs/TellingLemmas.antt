@@ -7,11 +7,11 @@ use Rattle.desk_rules.specs.Books.{Books}
 use Rattle.desk_rules.specs.Content.{Content}
 use Rattle.desk_register.specs.declared.register.Fault.{Fault}
 use Rattle.desk_register.specs.declared.register.Fault.TheVariants as faults
-use Rattle.desk_register.specs.View.{HasRead, IfTrusted, IsLater, View}
+use Rattle.desk_register.specs.View.{HasRead, IfTrusted, IsLater, View, IsRead}
 use Rattle.desk_engine.specs.Applied.{Keeps}
 use Rattle.desk_register.specs.declared.fault.WalkFault.{WalkFault}
 use Rattle.desk_register.specs.declared.fault.WalkFault.TheVariants as walks
-use Rattle.desk_register.specs.Ends.{HaveRead, at_register, broken_off}
+use Rattle.desk_register.specs.Ends.{at_register, broken_off}
 use Rattle.desk_register.proofs.ReadLemmas.{held_so}
 use Rattle.desk_register.proofs.ReadingLemmas.{broke_off, read_on, read_so}
 use Rattle.desk_codes.specs.Account.{IsAccount}
@@ -32,17 +32,17 @@ use Rattle.desk_book.proofs.AnsweringLemmas.{keeps_at}
 use Rattle.desk_book.proofs.RowLemmas.{appends_nothing}
 
 -- Reading calls that went well, and then a walk.
-pub walk_then : {X : Type 0} (r : Result X WalkFault) (v0 v1 v2 : View) → HasRead v0 v1 → HaveRead (at_register r) v1 v2 → HaveRead (at_register r) v0 v2
+pub walk_then : {X : Type 0} (r : Result X WalkFault) (v0 v1 v2 : View) → HasRead v0 v1 → IsRead (at_register r) v1 v2 → IsRead (at_register r) v0 v2
 walk_then (Ok x) v0 v1 v2 h read = read_so v0 v2 (read_on v0 v1 h tt v2 read) tt
 walk_then (Err (walks.Sink fault)) v0 v1 v2 h read = read_so v0 v2 (read_on v0 v1 h tt v2 read) tt
 walk_then (Err walks.Memory) v0 v1 v2 h read = broke_off v0 v1 h faults.Memory v2 read
 walk_then (Err walks.Storage) v0 v1 v2 h read = broke_off v0 v1 h faults.Storage v2 read
 
 -- a walk that broke off, handed on
-pub walk_broke : (fault : WalkFault) (r : Result (Unit {0}) WalkFault) (v0 v1 v2 : View) → IsErrAnd r (λ broken. broken ≡ fault) → HasRead v0 v1 → HaveRead (at_register {X = Unit {0}} (Err fault)) v1 v2
-    → HaveRead (at_register r) v0 v2
+pub walk_broke : (fault : WalkFault) (r : Result (Unit {0}) WalkFault) (v0 v1 v2 : View) → IsErrAnd r (λ broken. broken ≡ fault) → HasRead v0 v1 → IsRead (at_register {X = Unit {0}} (Err fault)) v1 v2
+    → IsRead (at_register r) v0 v2
 walk_broke fault (Ok x) v0 v1 v2 is h read = absurd is
-walk_broke fault (Err broken) v0 v1 v2 is h read = subst (λ z. HaveRead (at_register {X = Unit {0}} (Err z)) v0 v2) (sym is) (walk_then {X = Unit {0}} (Err fault) v0 v1 v2 h read)
+walk_broke fault (Err broken) v0 v1 v2 is h read = subst (λ z. IsRead (at_register {X = Unit {0}} (Err z)) v0 v2) (sym is) (walk_then {X = Unit {0}} (Err fault) v0 v1 v2 h read)
 
 -- what is known of a walk by what is kept then is known by what was kept before
 pub known_before : (v0 v1 v2 : View) (books : Books) (P : Type 0) → HasRead v0 v1 → IsLater v1 v2 → IfTrusted v1 v2 (Keeps v1.room books v1.content → P) → IfTrusted v0 v2 (Keeps v0.room books v0.content → P)

@@ -77,20 +77,17 @@ abbrev pub says_closed : Result Reply Fault → Bool
 says_closed (Err Closed) = true
 says_closed answer = false
 
--- The device is blamed where it failed in the request, and nowhere else: the count of its failures has grown after 61,
--- and is as it was after every answer but 61 and 62.
+-- The device is blamed where it failed in the request: the count of its failures has grown after 61.
 pub record BlamesRequest (result : Result Reply Fault) (old new : View) : Type 0 where
-  pub storage : result ≡ Err Storage → IfCounted new (old.failures < new.failures)
-  pub otherwise : result ≢ Err Storage → says_closed result ≡ false → IfCounted new (new.failures ≡ old.failures)
+  pub storage : result ≡ Err Storage → IfCounted new (old.device.failures < new.device.failures)
 
--- how the count of the device's failures goes on in one answer: it grows at 61, does not shrink at 62, and stays at any other
+-- how the count of the device's failures goes on in one answer: it grows at 61, and never shrinks
 abbrev pub Counts : Result Reply Fault → ℕ → ℕ → Type 0
 Counts (Err Storage) before after = before < after
-Counts (Err Closed) before after = before ≤ after
-Counts answer before after = after ≡ before
+Counts answer before after = before ≤ after
 
--- The device is blamed where it failed in the requests, and nowhere else: answer by answer, the count of its failures goes
--- from one number to the other.
+-- The device is blamed where it failed in the requests: answer by answer, the count of its failures goes from one number to
+-- the other.
 abbrev pub AreBlamed : List (Result Reply Fault) → ℕ → ℕ → Type 0
 AreBlamed [] before after = after ≡ before
 AreBlamed (answer ∷ answers) before after = (next : ℕ) × Counts answer before next × AreBlamed answers next after

@@ -8,7 +8,7 @@ use Rattle.desk_rules.specs.Reply.{reply_to}
 use Rattle.desk_register.specs.declared.register.Fault.{Fault as RegisterFault}
 use Rattle.desk_register.specs.declared.register.Fault.TheVariants as registers
 use Rattle.desk_register.specs.declared.register.Stage.TheVariants.{Idle}
-use Rattle.desk_register.specs.View.{View, IfCounted, IsLater}
+use Rattle.desk_register.specs.View.{View, IsLater}
 use Rattle.desk_engine.specs.declared.accepting.Failure.{Failure}
 use Rattle.desk_engine.specs.declared.accepting.Failure.TheVariants.{Undone, Lost}
 use Rattle.desk_engine.specs.Applied.{Keeps}
@@ -24,6 +24,7 @@ use Rattle.desk_book.specs.declared.fault.Fault.TheVariants.{Memory, Storage, Cl
 pub record Ends (result : Result Reply Fault) (old new : View) : Type 0 where
   pub stage : says_closed result ≡ false → new.stage ≡ Idle
   pub sure : says_closed result ≡ false → new.is_honest → new.is_sure
+  pub device : says_closed result ≡ false → new.device.is_honest → new.device.is_sure
   pub same : says_closed result ≡ false → new.is_honest → OnErr result (new.content ≡ old.content)
   pub later : IsLater old new
   pub blame : BlamesRequest result old new
@@ -50,10 +51,10 @@ pub record AnswersFault (fault answer : Fault) (old : View) (content : Content) 
   pub is : answer ≢ Closed → answer ≡ fault
   pub stage : answer ≢ Closed → new.stage ≡ Idle
   pub sure : answer ≢ Closed → new.is_honest → new.is_sure
+  pub device : answer ≢ Closed → new.device.is_honest → new.device.is_sure
   pub held : answer ≢ Closed → new.is_honest → old.is_sure
   pub same : answer ≢ Closed → new.is_honest → new.content ≡ content
   pub later : IsLater old new
-  pub failures : answer ≢ Closed → IfCounted new (new.failures ≡ old.failures)
 
 -- an entry was taken in, and this is its reply
 pub record IsPut (limit : ℕ) (books : Books) (entry : Entry) (reply : Reply) (content : Content) : Type 0 where

@@ -37,5 +37,5 @@ module _ {R : Type 0} (view : R → View) (is_in_memory : Bool) where
     pub closed : result ≡ Err Closed ↔ old.is_closed ≡ true
     pub untouched : old.is_closed ≡ true → after ≡ before
     pub stays : StaysOpen result new.is_closed
-    pub blame : BlamesDevice result new.is_closed (view old.register) (view new.register)
+    pub blame : BlamesDevice result (view old.register) (view new.register)
     pub unwritten : result ≡ Err WriteFailed → may_fail ≡ true

@@ -42,13 +42,13 @@ answers_text (ask asked ∷ items) [] = []
 answers_text (ask asked ∷ items) (answer ∷ answers) = answer_text answer ++ answers_text items answers
 
 -- Items were played from these books, and their requests got these answers in turn, to the books that the desk holds
--- then, and with which it keeps its promise. The device is blamed where it failed in them, and nowhere else.
+-- then, and with which it keeps its promise. The device is blamed where it failed in them.
 pub record HasPlayed (was : Bool) (books : Books) (items : List Item) (answers : List (Result Reply Fault)) (is : Bool) (old new : View) : Type 0 where
   pub last : Books
   pub in_turn : AnsweredInTurn old.room was books (asked_in items) answers is last
   pub holds : Holds is new last
   pub promise : KeepsPromise is new last
-  pub blame : IfCounted new (AreBlamed answers old.failures new.failures)
+  pub blame : IfCounted new (AreBlamed answers old.device.failures new.device.failures)
 
 -- a whole script was played, and its answers written
 pub record PlaysScript (was : Bool) (books : Books) (script : List ℕ) (before after : Option (List ℕ)) (is : Bool) (old new : View) : Type 0 where

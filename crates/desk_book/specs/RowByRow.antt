@@ -10,7 +10,7 @@ use Rattle.desk_rules.specs.Content.{Content, history_of}
 use Rattle.desk_rules.specs.declared.answers.reply.Reply.{Reply}
 use Rattle.desk_register.specs.declared.register.Fault.{Fault}
 use Rattle.desk_register.specs.declared.register.Stage.TheVariants.{Idle}
-use Rattle.desk_register.specs.View.{View, IfCounted, IfTrusted, IsLater}
+use Rattle.desk_register.specs.View.{View, IfTrusted, IsLater, StaysSure}
 use Rattle.desk_engine.specs.Accepting.{Shows}
 use Rattle.desk_register.specs.declared.fault.WalkFault.{WalkFault}
 use Rattle.desk_register.specs.declared.fault.WalkFault.TheVariants as walks
@@ -116,7 +116,6 @@ WritesSecurity content isin is_later (Err fault) before after = after ≡ before
 pub record Shown (is_lost : Bool) (old new : View) : Type 0 where
   pub shows : is_lost ≡ false → Shows old.content new
   pub later : IsLater old new
-  pub failures : is_lost ≡ false → IfCounted new (new.failures ≡ old.failures)
 
 -- What a walk leaves of the register, from its end on: unless it is lost, it holds what it held. It is never lost where each
 -- call of it went well, and where one failed it is shown that it holds that.
@@ -125,19 +124,21 @@ pub record Leaves {X : Type 0} (result : Result X Fault) (is_lost : Bool) (old n
   pub same : is_lost ≡ false → new.is_honest → new.content ≡ old.content
   pub ok : OnOk result (is_lost ≡ false)
   pub still_sure : OnOk result (IfTrusted old new new.is_sure)
+  pub still_device : OnOk result (StaysSure old new)
   pub shown : OnErr result (is_lost ≡ false → new.is_honest → new.is_sure)
+  pub shown_device : OnErr result (is_lost ≡ false → new.device.is_honest → new.device.is_sure)
   pub later : IsLater old new
-  pub failures : is_lost ≡ false → IfCounted new (new.failures ≡ old.failures)
 
 -- How it ends at an open desk's register that an answer was written: unless the register is lost, it shows what it held.
 pub record EndsWriting (result : Result Head ToFault) (is_lost : Bool) (old new : View) : Type 0 where
   pub stage : is_lost ≡ false → new.stage ≡ Idle
   pub sure : is_lost ≡ false → new.is_honest → new.is_sure
+  pub device : is_lost ≡ false → new.device.is_honest → new.device.is_sure
   pub same : is_lost ≡ false → new.is_honest → new.content ≡ old.content
   pub stays : StaysOpen result is_lost
   pub asked : result ≢ Err Closed
   pub later : IsLater old new
-  pub blame : BlamesDevice result is_lost old new
+  pub blame : BlamesDevice result old new
 
 -- The answer whose text was written in memory, where a write fails for want of memory alone. Where the register is lost, the
 -- desk is closed.

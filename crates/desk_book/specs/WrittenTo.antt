@@ -45,8 +45,6 @@ StaysOpen (Ok head) is_closed = is_closed ≡ false
 StaysOpen (Err WriteFailed) is_closed = is_closed ≡ false
 StaysOpen (Err fault) is_closed = Unit {0}
 
--- The device is blamed where it failed, and nowhere else: the count of its failures has grown after a storage fault, and is
--- as it was after every other answer of a desk that is open then.
-pub record BlamesDevice (result : Result Head ToFault) (is_closed : Bool) (old new : View) : Type 0 where
-  pub storage : result ≡ Err Storage → IfCounted new (old.failures < new.failures)
-  pub otherwise : result ≢ Err Storage → is_closed ≡ false → IfCounted new (new.failures ≡ old.failures)
+-- The device is blamed where it failed: the count of its failures has grown after a storage fault.
+pub record BlamesDevice (result : Result Head ToFault) (old new : View) : Type 0 where
+  pub storage : result ≡ Err Storage → IfCounted new (old.device.failures < new.device.failures)

@@ -165,7 +165,7 @@ impl<R: Register> Desk<R> {
         ensures memory { IfErr result (λ fault. fault ≡ Fault.Memory) }
         ensures left { LeavesDesk R.view R.in_memory self.old self.new }
         ensures stays { self.old.is_closed ≡ true → IfOk result (λ answers. All (λ answer. says_closed answer ≡ true) answers.items) }
-        ensures blame { IfOk result (λ answers. IfCounted (R.view self.new.register) (AreBlamed answers.items (R.view self.old.register).failures (R.view self.new.register).failures)) }
+        ensures blame { IfOk result (λ answers. IfCounted (R.view self.new.register) (AreBlamed answers.items (R.view self.old.register).device.failures (R.view self.new.register).device.failures)) }
     {
         let Ok(mut answers) = Vec::with_capacity(alloc, requests.len()) else {
             return Err(Fault::Memory);

@@ -172,18 +172,18 @@ module _ {X : Type 0} (f : X → List ℕ × ℕ) where
       was mid is v0 v1 v2 soon later (omega arith) place indices answers s (subst A file a)
 
 pub step_blamed : (replies more : List DropReply) (reply : DropReply) (v0 v1 v2 : View) → IsLater v1 v2 → more ≡ replies ++ reply ∷ []
-    → IfCounted v1 (AreBlamed (map (λ (r : DropReply). r.answer) replies) v0.failures v1.failures) → BlamesRequest reply.answer v1 v2 → IfCounted v2 (AreBlamed (map (λ (r : DropReply). r.answer) more) v0.failures v2.failures)
+    → IfCounted v1 (AreBlamed (map (λ (r : DropReply). r.answer) replies) v0.device.failures v1.device.failures) → BlamesRequest reply.answer v1 v2 → IfCounted v2 (AreBlamed (map (λ (r : DropReply). r.answer) more) v0.device.failures v2.device.failures)
 step_blamed replies more reply v0 v1 v2 later grown before now =
     let answers : map (λ (r : DropReply). r.answer) more ≡ map (λ (r : DropReply). r.answer) replies ++ reply.answer ∷ [] =
     ap (map (λ (r : DropReply). r.answer)) grown ∙ map-append (λ (r : DropReply). r.answer) replies (reply ∷ []) in
-    let P : List (Result Reply Fault) → Type 0 = λ xs. IfCounted v2 (AreBlamed xs v0.failures v2.failures) in
+    let P : List (Result Reply Fault) → Type 0 = λ xs. IfCounted v2 (AreBlamed xs v0.device.failures v2.device.failures) in
     subst P (sym answers) (blamed v0 v1 v2 (map (λ (r : DropReply). r.answer) replies) reply.answer later before now)
 
 -- no reply
-pub none_blamed : (replies : List DropReply) (view : View) → replies ≡ [] → IfCounted view (AreBlamed (map (λ (r : DropReply). r.answer) replies) view.failures view.failures)
+pub none_blamed : (replies : List DropReply) (view : View) → replies ≡ [] → IfCounted view (AreBlamed (map (λ (r : DropReply). r.answer) replies) view.device.failures view.device.failures)
 none_blamed replies view none =
-    let P : List DropReply → Type 0 = λ rs. IfCounted view (AreBlamed (map (λ (r : DropReply). r.answer) rs) view.failures view.failures) in
-    subst P (sym none) (λ honest few. refl)
+    let P : List DropReply → Type 0 = λ rs. IfCounted view (AreBlamed (map (λ (r : DropReply). r.answer) rs) view.device.failures view.device.failures) in
+    subst P (sym none) (λ honest device few. refl)
 
 pub none_replied : (files : List File) (places : List (List ℕ × ℕ)) (replies : List DropReply) (was : Bool) (view : View) → replies ≡ []
     → SoFar files places 0 (map (λ (r : DropReply). r.index) replies) (map (λ (r : DropReply). r.answer) replies) was was view view

@@ -33,7 +33,7 @@ pub fn take<R: Register>(
         HasTaken (R.view desk.old.register).room desk.old.is_closed books (map (λ item. item.request) items) (map (λ reply. reply.answer) replies.items) desk.new.is_closed (R.view desk.new.register))) }
     ensures within { IfOk result (λ replies. All (λ reply. reply.index < length files.now) replies.items) }
     ensures blame { IfOk result (λ replies. IfCounted (R.view desk.new.register)
-        (AreBlamed (map (λ reply. reply.answer) replies.items) (R.view desk.old.register).failures (R.view desk.new.register).failures)) }
+        (AreBlamed (map (λ reply. reply.answer) replies.items) (R.view desk.old.register).device.failures (R.view desk.new.register).device.failures)) }
     ensures left { LeavesDesk R.view R.in_memory desk.old desk.new }
     ensures err { OnErr result (desk.new ≡ desk.old) }
     ensures memory { IfErr result (λ fault. fault ≡ Fault.Memory) }

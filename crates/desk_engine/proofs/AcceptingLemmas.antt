@@ -47,8 +47,7 @@ use Rattle.desk_register.specs.declared.register.Fault.{Fault}
 use Rattle.desk_register.specs.declared.register.Fault.TheVariants.{Memory}
 use Rattle.desk_register.specs.declared.register.Stage.TheVariants.{Idle, Begun, Failed}
 use Rattle.desk_register.specs.View.{View, IsLater, IsRead, Stays, fallen}
-use Rattle.desk_register.proofs.ViewLemmas.{blames_memory, later_then, stays_then}
-use Rattle.desk_engine.proofs.StepLaws.{steps_blame}
+use Rattle.desk_register.proofs.ViewLemmas.{blames_memory, later_then, same_blame, stays_then}
 use Rattle.desk_engine.specs.Steps.{IsStep}
 use Rattle.desk_engine.specs.Applied.{HasPasses, Keeps, IsMateOf, IsNamed, IsApplied, CanApply, HasApplied}
 use Rattle.desk_engine.proofs.AppendLemmas.{accepted_new}
@@ -481,7 +480,7 @@ read_fails fault v0 v1 begun r = record {
     mark = r.err.mark;
   };
   later = r.later;
-  blame = steps_blame fault v0 v1 r.blame;
+  blame = same_blame fault v0 v1 r.blame;
 }
 
 -- want of memory, after calls that went well, which touches nothing
@@ -493,7 +492,7 @@ want_one fault v0 v1 begun stays later is = record {
     mark = λ honest sure. stays.mark honest (later.sure honest sure);
   };
   later = later;
-  blame = steps_blame fault v0 v1 (blames_memory {X = Unit {0}} fault v0 v1 is stays.failures);
+  blame = blames_memory fault v0 v1 is;
 }
 
 pub want_step : {X : Type 0} (fault : Fault) (v0 v1 v2 : View) → v0.stage ≡ Begun → Stays v0 v1 → IsLater v0 v1 → Stays v1 v2 → IsLater v1 v2 → fault ≡ Memory → IsStep {X = X} (Err fault) v0 v2

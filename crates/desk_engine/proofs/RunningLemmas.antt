@@ -94,8 +94,8 @@ passing_begins room v0 day rule number ran is =
     let none : Ran = record { passes = 0; settled = 0; last = 0; waiting = 0 } in
     let P : Ran → Type 0 = λ r. Passing room v0 v0 day rule 0 number r in
     let first : Passing room v0 v0 day rule 0 number none = record {
-      stays = record { stage = refl; sure = λ honest sure. sure; mark = λ honest sure. refl; failures = λ honest few. refl };
-      later = record { honest = λ honest. honest; sure = λ honest sure. sure; failures = omega arith; room = refl };
+      stays = record { stage = refl; sure = λ honest sure. sure; mark = λ honest sure. refl; device = λ honest sure. sure };
+      later = record { honest = λ honest. honest; sure = λ honest sure. sure; room = refl; device_honest = λ honest. honest; failures = omega arith };
       kept = λ honest sure. refl;
       passes = refl;
       counted = omega arith;

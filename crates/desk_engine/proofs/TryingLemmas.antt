@@ -79,8 +79,8 @@ pub record Trying (room : ℕ) (v0 v : View) (day : List ℕ) (again : Bool) (pl
 
 pub trying_begins : (room : ℕ) (v0 : View) (day : List ℕ) (again : Bool) → Trying room v0 v0 day again None 0 0
 trying_begins room v0 day again = record {
-  stays = record { stage = refl; sure = λ honest sure. sure; mark = λ honest sure. refl; failures = λ honest few. refl };
-  later = record { honest = λ honest. honest; sure = λ honest sure. sure; failures = omega arith; room = refl };
+  stays = record { stage = refl; sure = λ honest sure. sure; mark = λ honest sure. refl; device = λ honest sure. sure };
+  later = record { honest = λ honest. honest; sure = λ honest sure. sure; room = refl; device_honest = λ honest. honest; failures = omega arith };
   counted = omega arith;
   kept = λ honest sure. refl;
   comes = λ honest sure books reference rule pass start at. record {

@@ -12,9 +12,10 @@ pub record KeepsFormed (limit : ℕ) (books : Books) (content : Content) : Type 
   pub tables : Keeps limit books content
   pub formed : AreWellFormed books.history
 
--- An open desk's register has no `begin` open, shows what it holds, and keeps the tables of books
--- whose entries are well formed.
+-- An open desk's register has no `begin` open, shows what it holds, on a device that has not shut the store, and keeps the
+-- tables of books whose entries are well formed.
 pub record IsReady (is_closed : Bool) (view : View) : Type 0 where
   pub stage : is_closed ≡ false → view.stage ≡ Idle
   pub sure : is_closed ≡ false → view.is_honest → view.is_sure
+  pub device : is_closed ≡ false → view.device.is_honest → view.device.is_sure
   pub books : is_closed ≡ false → view.is_honest → (books : Books) × KeepsFormed view.room books view.content

@@ -2,11 +2,11 @@
 ghost use Rattle.std.specs.Prelude.{◌≡◌, ◌≢◌, true, IfErr, IfOk, OnErr, OnOk};
 ghost use Rattle.desk_rules.specs.Books.{Books};
 ghost use Rattle.desk_rules.specs.WellFormed.{AreWellFormed, IsWellFormed};
-ghost use Rattle.desk_register.specs.View.{IfTrusted, IsLater};
+ghost use Rattle.desk_register.specs.View.{Blames, IfTrusted, IsLater};
 ghost use Rattle.desk_engine.specs.Accepting.{BlamesStep, IsDone, IsLeft, Recovers};
 ghost use Rattle.desk_engine.specs.Applied.{CanApply, HasApplied, Keeps};
 ghost use Rattle.desk_engine.specs.Sound.{LeavesSound};
-ghost use Rattle.desk_engine.specs.Steps.{BlamesSteps, Breaks};
+ghost use Rattle.desk_engine.specs.Steps.{Breaks};
 
 use crate::applied::Accepted;
 use crate::applying::apply;
@@ -57,7 +57,7 @@ fn put<R: Register>(alloc: Global, register: &mut R, entry: Entry) -> Result<Acc
     ensures ok { OnOk result (IsDone (R.view register.old) (R.view register.new)) }
     ensures err { OnErr result (Breaks (R.view register.old) (R.view register.new)) }
     ensures later { IsLater (R.view register.old) (R.view register.new) }
-    ensures blame { BlamesSteps result (R.view register.old) (R.view register.new) }
+    ensures blame { Blames result (R.view register.old) (R.view register.new) }
 {
     let accepted = apply(alloc, register, entry)?;
     register.commit(alloc)?;

@@ -10,10 +10,10 @@ use Rattle.desk_msg.specs.TookRows.{TookAll}
 use Rattle.desk_msg.proofs.TakenRows.{TookAll-push}
 use Rattle.desk_register.specs.declared.register.Fault.{Fault}
 use Rattle.desk_register.specs.declared.register.Fault.TheVariants as faults
-use Rattle.desk_register.specs.View.{HasRead, IsLater, View}
+use Rattle.desk_register.specs.View.{HasRead, IsLater, View, IsRead}
 use Rattle.desk_register.specs.Looked.{IsHoldingAfter}
 use Rattle.desk_register.specs.declared.holding.Holding.{Holding}
-use Rattle.desk_register.specs.Ends.{HaveRead, broken_off}
+use Rattle.desk_register.specs.Ends.{broken_off}
 use Rattle.desk_holdings.specs.Holdings.{HoldsRegistered}
 use Rattle.desk_holdings.specs.Taking.{Took, TookFirst, TookHoldings, TookUpTo}
 use Rattle.desk_holdings.specs.Walking.{IsNextRow}
@@ -50,7 +50,7 @@ module _ {S : Type 0} (took : S → StatementRow → S → Type 0) (account : Li
   }
 
   module _ (v0 v : View) (count : ℕ) (last : Option (List ℕ)) (told : ℕ) (before now : S) (w : Walking v0 v count last told before now) where
-    pub walking_goes_on : (v1 : View) (row : StatementRow) (after : S) → HaveRead {X = Option StatementRow} (Ok (Some row)) v v1 → (v1.is_honest → v.is_sure → IsNextRow v.content account last (Some row)) → took now row after
+    pub walking_goes_on : (v1 : View) (row : StatementRow) (after : S) → IsRead {X = Option StatementRow} (Ok (Some row)) v v1 → (v1.is_honest → v.is_sure → IsNextRow v.content account last (Some row)) → took now row after
         → Walking v0 v1 count (Some row.isin) (told + 1) before after
     walking_goes_on v1 row after read next one = record {
       entries = λ honest sure. w.entries (read.later.honest honest) sure;
@@ -74,7 +74,7 @@ module _ {S : Type 0} (took : S → StatementRow → S → Type 0) (account : Li
     }
 
     -- the next of them was handed over
-    pub walking_hands_over : (v1 : View) (row : StatementRow) → HaveRead {X = Option StatementRow} (Ok (Some row)) v v1 → (v1.is_honest → v.is_sure → IsNextRow v.content account last (Some row))
+    pub walking_hands_over : (v1 : View) (row : StatementRow) → IsRead {X = Option StatementRow} (Ok (Some row)) v v1 → (v1.is_honest → v.is_sure → IsNextRow v.content account last (Some row))
         → (v0.is_honest → v0.is_sure → HoldsRegistered v0.content account) → TookUpTo took account v0 v1 before now
     walking_hands_over v1 row read next known = record {
       rows = w.rows;

@@ -3,7 +3,7 @@ ghost use Rattle.std.specs.Prelude.{◌≡◌, ◌≢◌, true, codes, Err, IfOk
 ghost use Rattle.desk_rules.specs.Content.{history_of};
 ghost use Rattle.desk_rules.specs.Facts.{last_run};
 ghost use Rattle.desk_register.specs.View.{IfRead, IfTrusted, IsRead};
-ghost use Rattle.desk_register.specs.Ends.{HaveRead, at_register};
+ghost use Rattle.desk_register.specs.Ends.{at_register};
 ghost use Rattle.desk_holdings.specs.Holdings.{HoldsRegistered};
 ghost use Rattle.desk_holdings.specs.Statement.{IsStatementDay, Writes};
 
@@ -48,7 +48,7 @@ pub fn write_statement<R: Register, W: Sink>(
     requires stage { (R.view register.old).stage ≡ Stage.Idle }
     requires registered { IfTrusted (R.view register.old) (R.view register.old) (HoldsRegistered (R.view register.old).content account) }
     ensures written { Writes account result (R.view register.old) (R.view register.new) (W.contents writer.old) (W.contents writer.new) }
-    ensures read { HaveRead (at_register result) (R.view register.old) (R.view register.new) }
+    ensures read { IsRead (at_register result) (R.view register.old) (R.view register.new) }
     ensures in_memory { R.in_memory ≡ true → result ≢ Err WalkFault.Memory }
     ensures unwritten { result ≡ Err (WalkFault.Sink SinkFault.Write) → W.may_fail ≡ true }
 {

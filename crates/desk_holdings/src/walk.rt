@@ -1,7 +1,7 @@
 //! The walk over an account's holdings.
 ghost use Rattle.std.specs.Prelude.{◌≡◌, ◌≢◌, true, Err, IfOk};
-ghost use Rattle.desk_register.specs.View.{IfTrusted};
-ghost use Rattle.desk_register.specs.Ends.{HaveRead, at_register};
+ghost use Rattle.desk_register.specs.View.{IfTrusted, IsRead};
+ghost use Rattle.desk_register.specs.Ends.{at_register};
 ghost use Rattle.desk_holdings.specs.Holdings.{HoldsRegistered};
 ghost use Rattle.desk_holdings.specs.Taking.{Took};
 ghost use Rattle.desk_holdings.specs.Walking.{IsNextRow};
@@ -23,7 +23,7 @@ fn next_row<R: Register>(
     requires stage { (R.view register.old).stage ≡ Stage.Idle }
     requires registered { IfTrusted (R.view register.old) (R.view register.old) (HoldsRegistered (R.view register.old).content account) }
     ensures next { IfTrusted (R.view register.old) (R.view register.new) (IfOk result (λ row. IsNextRow (R.view register.old).content account last row)) }
-    ensures read { HaveRead result (R.view register.old) (R.view register.new) }
+    ensures read { IsRead result (R.view register.old) (R.view register.new) }
     ensures in_memory { R.in_memory ≡ true → result ≢ Err Fault.Memory }
 {
     let Some(holding) = register.holding_after(alloc, account, last)? else {
@@ -58,7 +58,7 @@ pub fn holdings_rows<R: Register, S: RowSink>(
     requires stage { (R.view register.old).stage ≡ Stage.Idle }
     requires registered { IfTrusted (R.view register.old) (R.view register.old) (HoldsRegistered (R.view register.old).content account) }
     ensures took { Took S.took account result (R.view register.old) (R.view register.new) sink.old sink.new }
-    ensures read { HaveRead (at_register result) (R.view register.old) (R.view register.new) }
+    ensures read { IsRead (at_register result) (R.view register.old) (R.view register.new) }
     ensures in_memory { R.in_memory ≡ true → result ≢ Err WalkFault.Memory }
     ensures unwritten { result ≡ Err (WalkFault.Sink SinkFault.Write) → S.may_fail ≡ true }
 {

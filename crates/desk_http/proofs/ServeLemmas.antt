@@ -53,7 +53,7 @@ none_served stream was books refusal view asks holds = record {
   in_turn = (refl, refl);
   holds = holds;
   promise = promised was view books holds;
-  blame = λ honest few. refl;
+  blame = λ honest device few. refl;
 }
 
 pub none_responded : {E : Type 0} (r : Result (Unit {0}) E) (before after : Option (List ℕ)) (stream : Option (List ℕ)) (was : Bool) (books : Books) (refusal : Refusal) (view : View)

@@ -36,7 +36,7 @@ response_to (Ok asked) [] = []
 response_to (Ok asked) (answer ∷ answers) = answer_response answer
 
 -- What a stream asks was asked of a desk with these books, once, to the books that the desk holds then, and with which it
--- keeps its promise. The device is blamed where it failed in it, and nowhere else.
+-- keeps its promise. The device is blamed where it failed in it.
 pub record Serves (was : Bool) (books : Books) (input : Option (List ℕ)) (is : Bool) (old new : View) : Type 0 where
   pub outcome : Result Asked Refusal
   pub asks : IfSome input (λ stream. Connection stream outcome)
@@ -45,7 +45,7 @@ pub record Serves (was : Bool) (books : Books) (input : Option (List ℕ)) (is :
   pub in_turn : AnsweredInTurn old.room was books (asked_of_desk outcome) answers is last
   pub holds : Holds is new last
   pub promise : KeepsPromise is new last
-  pub blame : IfCounted new (AreBlamed answers old.failures new.failures)
+  pub blame : IfCounted new (AreBlamed answers old.device.failures new.device.failures)
 
 -- the same, and the response was written
 pub record Responds (was : Bool) (books : Books) (input before after : Option (List ℕ)) (is : Bool) (old new : View) : Type 0 where

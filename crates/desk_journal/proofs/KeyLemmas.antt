@@ -17,9 +17,8 @@ use Rattle.desk_rules.specs.Tables.{AreTables}
 use Rattle.desk_rules.proofs.HistoryLemmas.{slice_get-some}
 use Rattle.desk_rules.proofs.OneContent.{one_books}
 use Rattle.desk_rules.proofs.SentNumbers.{all_known, sent_length, sent_numbered}
-use Rattle.desk_register.specs.View.{HasRead, View}
+use Rattle.desk_register.specs.View.{HasRead, View, IsRead}
 use Rattle.desk_register.specs.declared.fault.WalkFault.{WalkFault}
-use Rattle.desk_register.specs.Ends.{HaveRead}
 use Rattle.desk_register.proofs.ReadLemmas.{kept_so}
 use Rattle.desk_register.proofs.ReadingLemmas.{read_on}
 use Rattle.journal_rows.specs.declared.journal.MessageKey.{MessageKey}
@@ -123,7 +122,7 @@ module _ (v0 v : View) (index : ℕ) (notices : List Notice) (counts : BTreeMap 
       let notice_at = get_or notices index notice in
       kept_so v0 v k.read (λ c. HoldsInstruction c notice_at.about) honest sure0 (known (k.read.later.honest honest) sure0 index notice_at (slice_get-get_or notices index notice within))
 
-  pub keying_goes_on : (v1 : View) (notice : Notice) (counts1 : BTreeMap (List ℕ) ℕ) (keys1 : List MessageKey) → index < length notices → HaveRead {X = Unit {0}} (Ok tt) v v1
+  pub keying_goes_on : (v1 : View) (notice : Notice) (counts1 : BTreeMap (List ℕ) ℕ) (keys1 : List MessageKey) → index < length notices → IsRead {X = Unit {0}} (Ok tt) v v1
       → ((books : Books) → v1.is_honest → v.is_sure → AreTables books v.content → (place : ℕ) → IsNoticeAt books place (get_or notices index notice) → AreKeyed books place counts keys → AreKeyed books (place + 1) counts1 keys1)
       → Keying v0 v1 (index + 1) notices counts1 keys1
   keying_goes_on v1 notice counts1 keys1 within read more = record {

@@ -8,9 +8,8 @@ use Rattle.desk_rules.specs.Books.{Books}
 use Rattle.desk_rules.specs.Content.{Content}
 use Rattle.desk_rules.specs.Tables.{AreTables}
 use Rattle.desk_rules.proofs.SentNumbers.{sent_few}
-use Rattle.desk_register.specs.View.{View}
+use Rattle.desk_register.specs.View.{View, IsRead}
 use Rattle.desk_engine.proofs.AcceptingLemmas.{entries_within}
-use Rattle.desk_register.specs.Ends.{HaveRead}
 use Rattle.desk_engine.specs.Ready.{IsReady}
 use Rattle.desk_journal.specs.Sending.{HoldsBooks}
 
@@ -35,7 +34,7 @@ holds_books v count ready honest entries most =
     record { books = books.0; are = are; few = sent_few books.0 are.are (omega (arith, entries, most, same)) }
 
 -- what is held is held after calls that only read
-pub still_held : {X : Type 0} (r : X) (v0 v1 : View) → HaveRead {X = X} (Ok r) v0 v1 → (v0.is_honest → v0.is_sure → HoldsBooks v0.content) → v1.is_honest → v1.is_sure → HoldsBooks v1.content
+pub still_held : {X : Type 0} (r : X) (v0 v1 : View) → IsRead {X = X} (Ok r) v0 v1 → (v0.is_honest → v0.is_sure → HoldsBooks v0.content) → v1.is_honest → v1.is_sure → HoldsBooks v1.content
 still_held r v0 v1 read held honest sure =
     let sure0 = read.later.sure honest sure in
     subst HoldsBooks (sym (read.same honest sure0)) (held (read.later.honest honest) sure0)

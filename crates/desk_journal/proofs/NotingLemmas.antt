@@ -19,10 +19,10 @@ use Rattle.desk_rules.proofs.OneContent.{one_books}
 use Rattle.desk_rules.proofs.SentFronts.{flat-append, range-append}
 use Rattle.desk_register.specs.Looked.{reply_at}
 use Rattle.desk_register.specs.declared.register.Fault.TheVariants as faults
-use Rattle.desk_register.specs.View.{HasRead, View}
+use Rattle.desk_register.specs.View.{HasRead, View, IsRead}
 use Rattle.desk_register.specs.declared.fault.WalkFault.{WalkFault}
 use Rattle.desk_register.specs.declared.fault.WalkFault.TheVariants as walks
-use Rattle.desk_register.specs.Ends.{HaveRead, at_register}
+use Rattle.desk_register.specs.Ends.{at_register}
 use Rattle.desk_register.proofs.ReadLemmas.{kept_so}
 use Rattle.desk_register.proofs.ReadingLemmas.{broke_off, read_on, read_so}
 use Rattle.desk_journal.specs.Messages.{sent_upto}
@@ -92,21 +92,21 @@ abbrev broken : WalkFault → Ended
 broken fault = Err fault
 
 -- reading calls that went well, and then a part of the walk
-pub walk_then : (r : Ended) (v0 v1 v2 : View) → HasRead v0 v1 → HaveRead (at_register r) v1 v2 → HaveRead (at_register r) v0 v2
+pub walk_then : (r : Ended) (v0 v1 v2 : View) → HasRead v0 v1 → IsRead (at_register r) v1 v2 → IsRead (at_register r) v0 v2
 walk_then (Ok x) v0 v1 v2 h read = read_so v0 v2 (read_on v0 v1 h tt v2 read) tt
 walk_then (Err (walks.Sink fault)) v0 v1 v2 h read = read_so v0 v2 (read_on v0 v1 h tt v2 read) tt
 walk_then (Err walks.Memory) v0 v1 v2 h read = broke_off v0 v1 h faults.Memory v2 read
 walk_then (Err walks.Storage) v0 v1 v2 h read = broke_off v0 v1 h faults.Storage v2 read
 
 -- and one that broke off, handed on
-pub walk_broke : (fault : WalkFault) (r : Ended) (v0 v1 v2 : View) → IsErrAnd r (λ other. other ≡ fault) → HasRead v0 v1 → HaveRead (at_register (broken fault)) v1 v2 → HaveRead (at_register r) v0 v2
+pub walk_broke : (fault : WalkFault) (r : Ended) (v0 v1 v2 : View) → IsErrAnd r (λ other. other ≡ fault) → HasRead v0 v1 → IsRead (at_register (broken fault)) v1 v2 → IsRead (at_register r) v0 v2
 walk_broke fault (Ok x) v0 v1 v2 is h read = absurd is
-walk_broke fault (Err other) v0 v1 v2 is h read = subst (λ z. HaveRead (at_register (broken z)) v0 v2) (sym is) (walk_then (broken fault) v0 v1 v2 h read)
+walk_broke fault (Err other) v0 v1 v2 is h read = subst (λ z. IsRead (at_register (broken z)) v0 v2) (sym is) (walk_then (broken fault) v0 v1 v2 h read)
 
 -- and one that broke off without a call of the register
-pub list_broke : (fault : WalkFault) (r : Ended) (v0 v1 : View) → IsErrAnd r (λ other. other ≡ fault) → HasRead v0 v1 → at_register (broken fault) ≡ Ok tt → HaveRead (at_register r) v0 v1
+pub list_broke : (fault : WalkFault) (r : Ended) (v0 v1 : View) → IsErrAnd r (λ other. other ≡ fault) → HasRead v0 v1 → at_register (broken fault) ≡ Ok tt → IsRead (at_register r) v0 v1
 list_broke fault (Ok x) v0 v1 is h well = absurd is
-list_broke fault (Err other) v0 v1 is h well = subst (λ z. HaveRead z v0 v1) (sym well ∙ ap (λ z. at_register (broken z)) (sym is)) (read_so v0 v1 h tt)
+list_broke fault (Err other) v0 v1 is h well = subst (λ z. IsRead z v0 v1) (sym well ∙ ap (λ z. at_register (broken z)) (sym is)) (read_so v0 v1 h tt)
 
 -- what is told up to the next number, and how much that is
 told_more : (books : Books) (n : ℕ) → map blank (told_upto books (n + 1)) ≡ map blank (told_upto books n) ++ map blank (told_by books (n + 1))
@@ -131,7 +131,7 @@ pub record Noting (v0 v : View) (n : ℕ) (notices : List Notice) (ends : List �
   pub noted : (books : Books) → v.is_honest → v0.is_sure → AreTables books v0.content → (notices ≡ map blank (told_upto books n)) × (ends ≡ map (sent_upto books) (range_with_len 1 n))
 
 module _ (v0 v : View) (n : ℕ) (notices : List Notice) (ends : List ℕ) (s : Noting v0 v n notices ends) where
-  pub noting_goes_on : (v1 : View) (more : List Notice) (count : ℕ) (longer : List ℕ) → HaveRead {X = Unit {0}} (Ok tt) v v1
+  pub noting_goes_on : (v1 : View) (more : List Notice) (count : ℕ) (longer : List ℕ) → IsRead {X = Unit {0}} (Ok tt) v v1
       → ((books : Books) → v1.is_honest → v.is_sure → AreTables books v.content → more ≡ notices ++ map blank (told_by books (n + 1))) → count ≡ length more → longer ≡ ends ++ count ∷ [] → Noting v0 v1 (n + 1) more longer
   noting_goes_on v1 more count longer read noted counted added = record {
     read = read_on v0 v s.read tt v1 read;

@@ -25,7 +25,6 @@ use Rattle.desk_register.specs.declared.register.Stage.TheVariants.{Idle}
 use Rattle.desk_register.specs.Looked.{confirmation_in}
 use Rattle.desk_register.specs.View.{HasRead, IfRead, IsRead, View}
 use Rattle.desk_register.proofs.ViewLemmas.{idle_goes}
-use Rattle.desk_register.specs.Ends.{HaveRead}
 use Rattle.desk_register.proofs.ReadLemmas.{held_so, kept_so, read_one}
 use Rattle.desk_register.proofs.ReadingLemmas.{broke_off, read_on}
 use Rattle.desk_journal.specs.Sending.{HoldsBooks, IsConfirmedAt, IsPlaceOf, blank, known_upto}
@@ -139,7 +138,7 @@ pub record Noting (v0 v : View) (n : ℕ) (start now : List Notice) : Type 0 whe
   pub read : HasRead v0 v
   pub noted : (books : Books) → v.is_honest → v0.is_sure → AreTables books v0.content → start ≡ map blank (notices_of books) → now ≡ map (known_upto n) (notices_of books)
 
-pub noting_goes_on : (v0 v v1 : View) (n : ℕ) (start now more : List Notice) → Noting v0 v n start now → HaveRead {X = Unit {0}} (Ok tt) v v1
+pub noting_goes_on : (v0 v v1 : View) (n : ℕ) (start now more : List Notice) → Noting v0 v n start now → IsRead {X = Unit {0}} (Ok tt) v v1
     → ((books : Books) → v1.is_honest → v.is_sure → AreTables books v.content → now ≡ map (known_upto (n + 1 - 1)) (notices_of books) → more ≡ map (known_upto (n + 1)) (notices_of books)) → Noting v0 v1 (n + 1) start more
 noting_goes_on v0 v v1 n start now more so read noted = record {
   read = read_on v0 v so.read tt v1 read;
@@ -151,9 +150,9 @@ noting_goes_on v0 v v1 n start now more so read noted = record {
 }
 
 pub noting_breaks : (v0 v v1 : View) (n : ℕ) (start now : List Notice) → Noting v0 v n start now → (fault : Fault) (r : Result (Unit {0}) Fault) → IsErrAnd r (λ broken. broken ≡ fault)
-    → HaveRead {X = Unit {0}} (Err fault) v v1 → HaveRead {X = Unit {0}} r v0 v1
+    → IsRead {X = Unit {0}} (Err fault) v v1 → IsRead {X = Unit {0}} r v0 v1
 noting_breaks v0 v v1 n start now so fault (Ok x) is read = absurd is
-noting_breaks v0 v v1 n start now so fault (Err broken) is read = subst (λ z. HaveRead {X = Unit {0}} (Err z) v0 v1) (sym is) (broke_off v0 v so.read fault v1 read)
+noting_breaks v0 v v1 n start now so fault (Err broken) is read = subst (λ z. IsRead {X = Unit {0}} (Err z) v0 v1) (sym is) (broke_off v0 v so.read fault v1 read)
 
 pub noting_ends : (v0 v : View) (n : ℕ) (start now : List Notice) → Noting v0 v n start now → (books : Books) → v.is_honest → v0.is_sure → AreTables books v0.content → start ≡ map blank (notices_of books)
     → n ≡ length books.history → now ≡ notices_of books

@@ -15,10 +15,10 @@ use Rattle.desk_rules.specs.Tables.{AreTables}
 use Rattle.desk_rules.proofs.SentFronts.{range-append}
 use Rattle.desk_register.specs.declared.register.Fault.{Fault}
 use Rattle.desk_register.specs.declared.register.Fault.TheVariants as faults
-use Rattle.desk_register.specs.View.{HasRead, IsLater, View}
+use Rattle.desk_register.specs.View.{HasRead, IsLater, View, IsRead}
 use Rattle.desk_register.specs.declared.fault.WalkFault.{WalkFault}
 use Rattle.desk_register.specs.declared.fault.WalkFault.TheVariants as walks
-use Rattle.desk_register.specs.Ends.{HaveRead, broken_off}
+use Rattle.desk_register.specs.Ends.{broken_off}
 use Rattle.desk_register.proofs.ReadLemmas.{kept_so, read_none}
 use Rattle.desk_register.proofs.ReadingLemmas.{read_on}
 use Rattle.desk_book.specs.RowByRow.{WritesSome, WritesText, WritesWhole}
@@ -154,7 +154,7 @@ module _ (from : ℕ) (sending : Sending) (IsJson : Type 0) (v0 : View) (count :
         let honest_now = later.honest honest in
         writes books json honest (w.read.ok.sure honest_now sure) (kept_so v0 v w.read (AreTables books) honest_now sure known.tables) known.sent
 
-    pub writing_goes_on : (v1 : View) (is_later : Bool) (now : Option (List ℕ)) → HaveRead {X = Unit {0}} (Ok tt) v v1 → WritesNumber v1 (Ok is_later) now → Writing v1 (n + 1) is_later before now
+    pub writing_goes_on : (v1 : View) (is_later : Bool) (now : Option (List ℕ)) → IsRead {X = Unit {0}} (Ok tt) v v1 → WritesNumber v1 (Ok is_later) now → Writing v1 (n + 1) is_later before now
     writing_goes_on v1 is_later now read writes = record {
       read = read_on v0 v w.read tt v1 read;
       rows_of = λ books json honest sure known.

@@ -6,8 +6,8 @@ ghost use Rattle.desk_rules.specs.Content.{history_of};
 ghost use Rattle.desk_rules.specs.History.{instruction_at};
 ghost use Rattle.desk_rules.specs.Sent.{notices_of};
 ghost use Rattle.desk_rules.specs.Tables.{AreTables};
-ghost use Rattle.desk_register.specs.View.{IfTrusted};
-ghost use Rattle.desk_register.specs.Ends.{HaveRead, at_register};
+ghost use Rattle.desk_register.specs.View.{IfTrusted, IsRead};
+ghost use Rattle.desk_register.specs.Ends.{at_register};
 ghost use Rattle.desk_journal.specs.Counting.{AreKeyed, CountsMore, IsNoticeAt};
 ghost use Rattle.desk_journal.specs.Messages.{keys_of};
 ghost use Rattle.desk_journal.specs.Sending.{HoldNotices, HoldsBooks, HoldsInstruction, type_told};
@@ -53,7 +53,7 @@ fn instruction<R: Register>(
     requires stage { (R.view register.old).stage ≡ Stage.Idle }
     requires known { IfTrusted (R.view register.old) (R.view register.old) (HoldsInstruction (R.view register.old).content number) }
     ensures value { IfTrusted (R.view register.old) (R.view register.new) (IfOk result (λ found. instruction_at (history_of (R.view register.old).content) number ≡ Some found)) }
-    ensures read { HaveRead result (R.view register.old) (R.view register.new) }
+    ensures read { IsRead result (R.view register.old) (R.view register.new) }
 {
     let found = register.entry(alloc, number)?;
     match found.and_then(|entry| entry.instructed()) {
@@ -75,7 +75,7 @@ fn add_key<R: Register>(
     requires known { IfTrusted (R.view register.old) (R.view register.old) (HoldsInstruction (R.view register.old).content notice.about) }
     ensures keyed { (books : Books) → IfTrusted (R.view register.old) (R.view register.new) (AreTables books (R.view register.old).content
         → (place : ℕ) → IsNoticeAt books place notice → AreKeyed books place counts.old keys.old.items → OnOk result (AreKeyed books (place + 1) counts.new keys.new.items)) }
-    ensures read { HaveRead (at_register result) (R.view register.old) (R.view register.new) }
+    ensures read { IsRead (at_register result) (R.view register.old) (R.view register.new) }
     ensures unwritten { result ≢ Err (WalkFault.Sink SinkFault.Write) }
 {
     let addressed = instruction(alloc, register, notice.about)?;
@@ -104,7 +104,7 @@ pub fn add_keys<R: Register>(
     requires empty { IsEmpty counts.old × (keys.old.items ≡ []) }
     ensures keyed { (books : Books) → IfTrusted (R.view register.old) (R.view register.new) (AreTables books (R.view register.old).content → notices.now ≡ notices_of books
         → OnOk result (keys.new.items ≡ keys_of books)) }
-    ensures read { HaveRead (at_register result) (R.view register.old) (R.view register.new) }
+    ensures read { IsRead (at_register result) (R.view register.old) (R.view register.new) }
     ensures unwritten { result ≢ Err (WalkFault.Sink SinkFault.Write) }
 {
     'notices: for index in 0..notices.len() {

@@ -7,8 +7,7 @@ ghost use Rattle.desk_rules.specs.Standing.{state_of};
 ghost use Rattle.desk_rules.specs.Tables.{AreTables};
 ghost use Rattle.desk_rules.specs.declared.history.standing.State.TheVariants.{Settled};
 ghost use Rattle.desk_rules.specs.Verdict.{named_by};
-ghost use Rattle.desk_register.specs.View.{IfTrusted};
-ghost use Rattle.desk_register.specs.Ends.{HaveRead};
+ghost use Rattle.desk_register.specs.View.{IfTrusted, IsRead};
 ghost use Rattle.desk_journal.specs.Outcomes.{cancel_outcome, instructed_outcome, outcome_of, state_if};
 ghost use Rattle.desk_journal.specs.Runs.{settled_in};
 ghost use Rattle.desk_journal.specs.Sending.{HoldsBooks, HoldsEntry};
@@ -34,7 +33,7 @@ fn run_of_settled<R: Register>(
     requires known { IfTrusted (R.view register.old) (R.view register.old) (HoldsBooks (R.view register.old).content) }
     ensures run { (books : Books) → IfTrusted (R.view register.old) (R.view register.new) (AreTables books (R.view register.old).content → notices.now ≡ notices_of books
         → state_of books number ≡ Settled → IfOk result (λ run. run ≡ settled_in books number)) }
-    ensures read { HaveRead result (R.view register.old) (R.view register.new) }
+    ensures read { IsRead result (R.view register.old) (R.view register.new) }
 {
     let Some(place) = confirmed_place(alloc, register, number)? else {
         return Ok(None);
@@ -57,7 +56,7 @@ fn settled_outcome<R: Register>(
     requires known { IfTrusted (R.view register.old) (R.view register.old) (HoldsBooks (R.view register.old).content) }
     ensures outcome { (books : Books) → IfTrusted (R.view register.old) (R.view register.new) (AreTables books (R.view register.old).content → notices.now ≡ notices_of books
         → state_of books number ≡ Settled → mate ≡ mate_of books.pairs number → IfOk result (λ outcome. outcome ≡ instructed_outcome books number Settled)) }
-    ensures read { HaveRead result (R.view register.old) (R.view register.new) }
+    ensures read { IsRead result (R.view register.old) (R.view register.new) }
 {
     let run = run_of_settled(alloc, register, notices, number)?;
     let day = match run {
@@ -78,7 +77,7 @@ fn instruction_outcome<R: Register>(
     requires known { IfTrusted (R.view register.old) (R.view register.old) (HoldsBooks (R.view register.old).content) }
     ensures outcome { (books : Books) → IfTrusted (R.view register.old) (R.view register.new) (AreTables books (R.view register.old).content → notices.now ≡ notices_of books
         → IfOk result (λ outcome. outcome ≡ instructed_outcome books number (state_of books number))) }
-    ensures read { HaveRead result (R.view register.old) (R.view register.new) }
+    ensures read { IsRead result (R.view register.old) (R.view register.new) }
 {
     let standing = register.standing(alloc, number)?;
     let mate = standing.mate;
@@ -99,7 +98,7 @@ fn state_named<R: Register>(
 ) -> Result<State, Fault>
     requires stage { (R.view register.old).stage ≡ Stage.Idle }
     ensures state { (books : Books) → IfTrusted (R.view register.old) (R.view register.new) (AreTables books (R.view register.old).content → IfOk result (λ state. state ≡ state_if books number)) }
-    ensures read { HaveRead result (R.view register.old) (R.view register.new) }
+    ensures read { IsRead result (R.view register.old) (R.view register.new) }
 {
     let Some(number) = number else {
         return Ok(State::NoInstruction);
@@ -129,7 +128,7 @@ fn cancellation_outcome<R: Register>(
     requires stage { (R.view register.old).stage ≡ Stage.Idle }
     ensures outcome { (books : Books) → IfTrusted (R.view register.old) (R.view register.new) (AreTables books (R.view register.old).content
         → IfOk result (λ outcome. outcome ≡ cancel_outcome (named_by books.history sender.now order.now) (state_if books (named_by books.history sender.now order.now)))) }
-    ensures read { HaveRead result (R.view register.old) (R.view register.new) }
+    ensures read { IsRead result (R.view register.old) (R.view register.new) }
 {
     let instruction = instruction_named(alloc, register, sender, order)?;
     let state = state_named(alloc, register, instruction)?;
@@ -148,7 +147,7 @@ pub fn outcome<R: Register>(
     requires known { IfTrusted (R.view register.old) (R.view register.old) (HoldsEntry (R.view register.old).content number entry.now) }
     ensures outcome { (books : Books) → IfTrusted (R.view register.old) (R.view register.new) (AreTables books (R.view register.old).content → notices.now ≡ notices_of books
         → IfOk result (λ outcome. outcome ≡ outcome_of books number entry.now)) }
-    ensures read { HaveRead result (R.view register.old) (R.view register.new) }
+    ensures read { IsRead result (R.view register.old) (R.view register.new) }
 {
     match entry {
         Entry::Instruct { .. } => instruction_outcome(alloc, register, notices, number),

@@ -3,8 +3,7 @@ ghost use Rattle.std.specs.Prelude.{◌≡◌, IfOk};
 ghost use Rattle.desk_rules.specs.Books.{Books};
 ghost use Rattle.desk_rules.specs.Settlement.{settled_count};
 ghost use Rattle.desk_rules.specs.Tables.{AreTables};
-ghost use Rattle.desk_register.specs.View.{IfTrusted};
-ghost use Rattle.desk_register.specs.Ends.{HaveRead};
+ghost use Rattle.desk_register.specs.View.{IfTrusted, IsRead};
 ghost use Rattle.desk_journal.specs.Runs.{day_of_number, day_of_run, left_waiting};
 ghost use Rattle.desk_journal.specs.Sending.{HoldsRun};
 
@@ -25,7 +24,7 @@ pub fn counts_of_run<R: Register>(
     requires known { IfTrusted (R.view register.old) (R.view register.old) (HoldsRun (R.view register.old).content number) }
     ensures counts { (books : Books) → IfTrusted (R.view register.old) (R.view register.new) (AreTables books (R.view register.old).content
         → IfOk result (λ counts. (counts.0 ≡ settled_count books.settled number) × (counts.1 ≡ left_waiting books number))) }
-    ensures read { HaveRead result (R.view register.old) (R.view register.new) }
+    ensures read { IsRead result (R.view register.old) (R.view register.new) }
 {
     let Some(reply) = register.reply(alloc, number)? else {
         return Err(Fault::Storage);
@@ -54,7 +53,7 @@ pub fn day_of_run<R: Register>(
 ) -> Result<Option<Day>, Fault>
     requires stage { (R.view register.old).stage ≡ Stage.Idle }
     ensures day { (books : Books) → IfTrusted (R.view register.old) (R.view register.new) (AreTables books (R.view register.old).content → IfOk result (λ day. day ≡ day_of_number books number)) }
-    ensures read { HaveRead result (R.view register.old) (R.view register.new) }
+    ensures read { IsRead result (R.view register.old) (R.view register.new) }
 {
     match register.entry(alloc, number)? {
         Some(entry) => Ok(day_if_run(&entry)),

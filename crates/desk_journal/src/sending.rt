@@ -7,8 +7,8 @@ ghost use Rattle.std.specs.List.{range_with_len};
 ghost use Rattle.desk_rules.specs.Books.{Books};
 ghost use Rattle.desk_rules.specs.Sent.{notices_of, told_by};
 ghost use Rattle.desk_rules.specs.Tables.{AreTables};
-ghost use Rattle.desk_register.specs.View.{IfTrusted};
-ghost use Rattle.desk_register.specs.Ends.{HaveRead, at_register};
+ghost use Rattle.desk_register.specs.View.{IfTrusted, IsRead};
+ghost use Rattle.desk_register.specs.Ends.{at_register};
 ghost use Rattle.desk_journal.specs.Messages.{sent_upto};
 ghost use Rattle.desk_journal.specs.Sending.{HoldsBooks, HoldsEntry, IsPlaceOf, advice_if, blank, known_upto, told_upto};
 
@@ -53,7 +53,7 @@ fn note_pair<R: Register>(
     requires stage { (R.view register.old).stage ≡ Stage.Idle }
     ensures noted { (books : Books) → IfTrusted (R.view register.old) (R.view register.new) (AreTables books (R.view register.old).content
         → OnOk result (notices.new.items ≡ notices.old.items ++ advice_if number (mate_of books.pairs number))) }
-    ensures read { HaveRead (at_register result) (R.view register.old) (R.view register.new) }
+    ensures read { IsRead (at_register result) (R.view register.old) (R.view register.new) }
     ensures unwritten { result ≢ Err (WalkFault.Sink SinkFault.Write) }
 {
     let standing = register.standing(alloc, number)?;
@@ -91,7 +91,7 @@ fn note_entry<R: Register>(
     requires known { IfTrusted (R.view register.old) (R.view register.old) (HoldsBooks (R.view register.old).content) }
     ensures noted { (books : Books) → IfTrusted (R.view register.old) (R.view register.new) (AreTables books (R.view register.old).content
         → OnOk result (notices.new.items ≡ notices.old.items ++ map blank (told_by books number))) }
-    ensures read { HaveRead (at_register result) (R.view register.old) (R.view register.new) }
+    ensures read { IsRead (at_register result) (R.view register.old) (R.view register.new) }
     ensures unwritten { result ≢ Err (WalkFault.Sink SinkFault.Write) }
 {
     let Some(entry) = register.entry(alloc, number)? else {
@@ -120,7 +120,7 @@ pub fn note_entries<R: Register>(
     requires empty { (notices.old.items ≡ []) × (ends.old.items ≡ []) }
     ensures noted { (books : Books) → IfTrusted (R.view register.old) (R.view register.new) (AreTables books (R.view register.old).content
         → OnOk result ((notices.new.items ≡ map blank (told_upto books count)) × (ends.new.items ≡ map (sent_upto books) (range_with_len 1 count)))) }
-    ensures read { HaveRead (at_register result) (R.view register.old) (R.view register.new) }
+    ensures read { IsRead (at_register result) (R.view register.old) (R.view register.new) }
     ensures unwritten { result ≢ Err (WalkFault.Sink SinkFault.Write) }
 {
     'numbers: for before in 0..count {
@@ -140,7 +140,7 @@ pub fn confirmed_place<R: Register>(
     requires known { IfTrusted (R.view register.old) (R.view register.old) (HoldsBooks (R.view register.old).content) }
     ensures place { (books : Books) → IfTrusted (R.view register.old) (R.view register.new) (AreTables books (R.view register.old).content
         → IfOk result (λ place. IsPlaceOf books number place)) }
-    ensures read { HaveRead result (R.view register.old) (R.view register.new) }
+    ensures read { IsRead result (R.view register.old) (R.view register.new) }
 {
     let standing = register.standing(alloc, number)?;
     if standing.state != State::Settled {
@@ -171,7 +171,7 @@ fn note_settled<R: Register>(
     requires known { IfTrusted (R.view register.old) (R.view register.old) (HoldsBooks (R.view register.old).content) }
     ensures noted { (books : Books) → IfTrusted (R.view register.old) (R.view register.new) (AreTables books (R.view register.old).content
         → notices.old.items ≡ map (known_upto (number - 1)) (notices_of books) → OnOk result (notices.new.items ≡ map (known_upto number) (notices_of books))) }
-    ensures read { HaveRead result (R.view register.old) (R.view register.new) }
+    ensures read { IsRead result (R.view register.old) (R.view register.new) }
 {
     let Some(place) = confirmed_place(alloc, register, number)? else {
         return Ok(());
@@ -193,7 +193,7 @@ pub fn note_all_settled<R: Register>(
     requires known { IfTrusted (R.view register.old) (R.view register.old) (HoldsBooks (R.view register.old).content) }
     ensures noted { (books : Books) → IfTrusted (R.view register.old) (R.view register.new) (AreTables books (R.view register.old).content
         → notices.old.items ≡ map blank (notices_of books) → count ≡ length books.history → OnOk result (notices.new.items ≡ notices_of books)) }
-    ensures read { HaveRead result (R.view register.old) (R.view register.new) }
+    ensures read { IsRead result (R.view register.old) (R.view register.new) }
 {
     'numbers: for before in 0..count {
         note_settled(alloc, register, before + 1, notices)?;

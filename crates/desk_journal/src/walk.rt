@@ -3,8 +3,8 @@ ghost use Rattle.std.specs.Prelude.{◌≡◌, ◌≢◌, ◌<◌, ◌≤◌, �
 ghost use Rattle.std.specs.List.{range_with_len};
 ghost use Rattle.desk_rules.specs.Books.{AreBooks, Books};
 ghost use Rattle.desk_rules.specs.Tables.{AreTables};
-ghost use Rattle.desk_register.specs.View.{IfTrusted};
-ghost use Rattle.desk_register.specs.Ends.{HaveRead, at_register};
+ghost use Rattle.desk_register.specs.View.{IfTrusted, IsRead};
+ghost use Rattle.desk_register.specs.Ends.{at_register};
 ghost use Rattle.desk_engine.specs.Ready.{IsReady};
 ghost use Rattle.desk_book.specs.RowByRow.{WritesText};
 ghost use Rattle.desk_rules.specs.declared.limits.TheConstants.{MOST_ENTRIES};
@@ -60,7 +60,7 @@ fn write_number<R: Register, W: Sink>(
     requires known { IfTrusted (R.view register.old) (R.view register.old) (HoldsBooks (R.view register.old).content) }
     ensures written { (books : Books) → format ≡ Format.Json → IfTrusted (R.view register.old) (R.view register.new) (AreTables books (R.view register.old).content → IsSending books sending.now
         → WritesIf (data_of books) result (row_from books from number) is_later (W.contents writer.old) (W.contents writer.new)) }
-    ensures read { HaveRead (at_register result) (R.view register.old) (R.view register.new) }
+    ensures read { IsRead (at_register result) (R.view register.old) (R.view register.new) }
     ensures unwritten { result ≡ Err (WalkFault.Sink SinkFault.Write) → W.may_fail ≡ true }
 {
     if number < from {
@@ -94,7 +94,7 @@ fn write_rows<R: Register, W: Sink>(
     requires known { IfTrusted (R.view register.old) (R.view register.old) (HoldsBooks (R.view register.old).content) }
     ensures written { (books : Books) → format ≡ Format.Json → IfTrusted (R.view register.old) (R.view register.new) (AreTables books (R.view register.old).content → IsSending books sending.now
         → count ≡ length books.history → WritesText (AreRowsText books from) result (W.contents writer.old) (W.contents writer.new)) }
-    ensures read { HaveRead (at_register result) (R.view register.old) (R.view register.new) }
+    ensures read { IsRead (at_register result) (R.view register.old) (R.view register.new) }
     ensures unwritten { result ≡ Err (WalkFault.Sink SinkFault.Write) → W.may_fail ≡ true }
 {
     let mut is_later = false;
@@ -126,7 +126,7 @@ fn write_object<R: Register, W: Sink>(
     requires known { IfTrusted (R.view register.old) (R.view register.old) (HoldsBooks (R.view register.old).content) }
     ensures written { (books : Books) → IfTrusted (R.view register.old) (R.view register.new) (AreTables books (R.view register.old).content → IsSending books sending.now
         → count ≡ length books.history → WritesText (IsJournalText books from) result (W.contents writer.old) (W.contents writer.new)) }
-    ensures read { HaveRead (at_register result) (R.view register.old) (R.view register.new) }
+    ensures read { IsRead (at_register result) (R.view register.old) (R.view register.new) }
     ensures unwritten { result ≡ Err (WalkFault.Sink SinkFault.Write) → W.may_fail ≡ true }
 {
     write_text(writer, b"{\"journal\":[")?;
@@ -144,7 +144,7 @@ fn read_sending<R: Register>(
     requires known { IfTrusted (R.view register.old) (R.view register.old) (HoldsBooks (R.view register.old).content) }
     requires entries { IfTrusted (R.view register.old) (R.view register.old) (count ≡ length (R.view register.old).content.register) }
     ensures sending { (books : Books) → IfTrusted (R.view register.old) (R.view register.new) (AreTables books (R.view register.old).content → IfOk result (IsSending books)) }
-    ensures read { HaveRead (at_register result) (R.view register.old) (R.view register.new) }
+    ensures read { IsRead (at_register result) (R.view register.old) (R.view register.new) }
     ensures unwritten { result ≢ Err (WalkFault.Sink SinkFault.Write) }
 {
     let mut notices = Vec::new(alloc);
@@ -174,7 +174,7 @@ fn known_count<R: Register>(alloc: Global, register: &mut R) -> Result<u64, Walk
     requires ready { IsReady false (R.view register.old) }
     ensures count { IfTrusted (R.view register.old) (R.view register.new) (IfOk result (λ count. count ≡ length (R.view register.old).content.register)) }
     ensures most { IfOk result (λ count. count ≤ MOST_ENTRIES) }
-    ensures read { HaveRead (at_register result) (R.view register.old) (R.view register.new) }
+    ensures read { IsRead (at_register result) (R.view register.old) (R.view register.new) }
     ensures unwritten { result ≢ Err (WalkFault.Sink SinkFault.Write) }
 {
     let count = register.count(alloc)?;
@@ -203,7 +203,7 @@ pub fn write_journal<R: Register, W: Sink>(
     requires ready { IsReady false (R.view register.old) }
     ensures written { format ≡ Format.Json → (books : Books) → IfTrusted (R.view register.old) (R.view register.new) (Keeps (R.view register.old).room books (R.view register.old).content
         → WritesText (IsJournalText books from) result (W.contents writer.old) (W.contents writer.new)) }
-    ensures read { HaveRead (at_register result) (R.view register.old) (R.view register.new) }
+    ensures read { IsRead (at_register result) (R.view register.old) (R.view register.new) }
     ensures unwritten { result ≡ Err (WalkFault.Sink SinkFault.Write) → W.may_fail ≡ true }
 {
     let count = known_count(alloc, register)?;

@@ -90,13 +90,13 @@ done_change (Ok o) done v w is change = subst (λ r. IsChange r v w) (sym is) (r
   ok = change.ok;
   err = tt;
   later = change.later;
-  blame = record { storage = λ e. absurd (cc); memory = λ e. absurd (cc) };
+  blame = record { storage = λ e. absurd (cc) };
 })
 done_change (Err fault) done v w is change = subst (λ r. IsChange r v w) (sym is) (record {
   ok = tt;
   err = change.err;
   later = change.later;
-  blame = record { storage = λ e. change.blame.storage (ap Err (error_is (Unit {0}) fault Storage e)); memory = λ e. change.blame.memory (ap Err (error_is (Unit {0}) fault Memory e)) };
+  blame = record { storage = λ e. change.blame.storage (ap Err (error_is (Unit {0}) fault Storage e)) };
 })
 
 -- A pair as memory knows it behind a try is the one that was tried.

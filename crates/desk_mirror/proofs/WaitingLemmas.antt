@@ -66,9 +66,9 @@ read_mirrored phase m new t was is read are = record {
   at = stays_at phase m new t was is (read.same is.honest was.sure) read.ok are.at;
 }
 
-module _ (result : Result Outcome Fault) (outcome : Outcome) (reason : Option Reason) (phase phase' : Phase) (k k' n : ℕ) (m between new t : View) (was : HasNoDevice m) (is_between : HasNoDevice between) (is : HasNoDevice new)
+module _ (result : Result Outcome Fault) (outcome : Outcome) (reason : Option Reason) (phase phase' : Phase) (n : ℕ) (m between new t : View) (was : HasNoDevice m) (is_between : HasNoDevice between) (is : HasNoDevice new)
     (are : AreMirrored phase m t) (started : stage_of phase ≡ stages.Begun) (read : HasRead m between) (is_ok : result ≡ Ok outcome)
-    (tries : IfTrusted between new (IfOk result (λ o. TriesPair between.content n o new.content))) (change : IsChange result between new) (after : IsAfter result phase phase' k k') where
+    (tries : IfTrusted between new (IfOk result (λ o. TriesPair between.content n o new.content))) (change : IsChange result between new) (after : IsAfter result phase phase') where
   tried : TriesPair between.content n outcome new.content
   tried = ok_tries result outcome n between.content new.content is_ok (tries is.honest is_between.sure)
 
@@ -88,7 +88,7 @@ module _ (result : Result Outcome Fault) (outcome : Outcome) (reason : Option Re
         later = change.later;
         blame = blames_none tt between new;
       } in
-      subst (λ p. AreMirrored p new t) (sym (ok_phase result outcome phase phase' k k' is_ok after)) (read_mirrored phase between new t is_between is last are_between)
+      subst (λ p. AreMirrored p new t) (sym (ok_phase result outcome phase phase' is_ok after)) (read_mirrored phase between new t is_between is last are_between)
 
   -- the pair that memory knows behind any other is the one that the tables have not tried yet
   pub tried_fits : (known : Option KnownPair) (read_on : View) → HasNoDevice read_on → IfRead new read_on (IfSome known (λ pair. IsKnownAt new.content n pair)) → IfTrusted t t (IfSome known (λ pair. IsKnownAt t.content n pair))
@@ -99,11 +99,11 @@ module _ (result : Result Outcome Fault) (outcome : Outcome) (reason : Option Re
       subst (λ c. IsKnownAt c n pair) (begun.same honest sure) (known_before between.content new.content n pair (known_is is_on.honest is.sure (λ failed. absurd (cc))) outcome tried)
 
   -- and it is made of them too
-  pub try_keeps : (read_on : View) → HasNoDevice read_on → HasRead new read_on → (told : Result (Unit {0}) Fault) (also : Unit {0}) (last : Phase) (j j' : ℕ) (t' : View) → told ≡ Ok also
-      → IfTrusted t t' ((made : Content) → TriesPair t.content n outcome made → OnOk told (t'.content ≡ made)) → IsChange told t t' → IsAfter told phase' last j j' → AreMirrored last read_on t'
-  try_keeps read_on is_on reads told also last j j' t' told_is follows told_change told_after =
+  pub try_keeps : (read_on : View) → HasNoDevice read_on → HasRead new read_on → (told : Result (Unit {0}) Fault) (also : Unit {0}) (last : Phase) (t' : View) → told ≡ Ok also
+      → IfTrusted t t' ((made : Content) → TriesPair t.content n outcome made → OnOk told (t'.content ≡ made)) → IsChange told t t' → IsAfter told phase' last → AreMirrored last read_on t'
+  try_keeps read_on is_on reads told also last t' told_is follows told_change told_after =
       let tries_on : IfTrusted between read_on (IfOk result (λ o. TriesPair between.content n o read_on.content)) =
       λ honest sure. subst (λ c. IfOk result (λ o. TriesPair between.content n o c)) (sym (reads.same is_on.honest is.sure)) (tries is.honest is_between.sure) in
-      subst (λ p. AreMirrored p read_on t') (sym (ok_phase told also phase' last j j' told_is told_after))
-      (change_keeps result phase phase' k k' between read_on t t' is_between is_on are_between started told_change.later (ok_stays told also t t' told_is told_change.ok) (change_read result outcome between new read_on is_ok change reads)
+      subst (λ p. AreMirrored p read_on t') (sym (ok_phase told also phase' last told_is told_after))
+      (change_keeps result phase phase' between read_on t t' is_between is_on are_between started told_change.later (ok_stays told also t t' told_is told_change.ok) (change_read result outcome between new read_on is_ok change reads)
       (both_follow n result outcome told also between read_on t t' is_between is_on is_ok tries_on told_is follows) after)

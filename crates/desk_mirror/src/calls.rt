@@ -15,35 +15,34 @@ impl<M: MemoryRegister, S: ToldRegister + Drop> Register for MirroredRegister<M,
     ghost use Rattle.std.specs.Prelude.{false};
     ghost use Rattle.desk_mirror.specs.Both.{shown};
 
-    ghost view = { λ r. shown (M.view r.memory) r.stage r.failures };
+    ghost view = { λ r. shown (M.view r.memory) r.stage (S.view r.tables) };
 
     ghost in_memory = { false };
 
     fn begin(&mut self, alloc: Global) -> Result<(), Fault> {
-        self.course.after(self.tables.begin(alloc))?;
+        self.phase.after(self.tables.begin(alloc))?;
         self.memory.begin(alloc).unwrap();
-        self.course.phase = Phase::Begun;
+        self.phase = Phase::Begun;
         Ok(())
     }
 
     fn commit(&mut self, alloc: Global) -> Result<(), Fault> {
-        self.course.after(self.tables.commit(alloc))?;
+        self.phase.after(self.tables.commit(alloc))?;
         self.memory.commit(alloc).unwrap();
-        self.course.phase = Phase::Idle;
+        self.phase = Phase::Idle;
         Ok(())
     }
 
     fn back(&mut self, alloc: Global) -> Result<(), Fault> {
-        if matches!(self.course.phase, Phase::Lost) {
-            self.course.lose(Fault::Storage);
+        if matches!(self.phase, Phase::Lost) {
             return Err(Fault::Storage);
         }
         if let Err(fault) = self.tables.back(alloc) {
-            self.course.lose(fault);
+            self.phase = Phase::Lost;
             return Err(fault);
         }
         self.memory.back(alloc).unwrap();
-        self.course.phase = Phase::Idle;
+        self.phase = Phase::Idle;
         Ok(())
     }
 
@@ -52,31 +51,31 @@ impl<M: MemoryRegister, S: ToldRegister + Drop> Register for MirroredRegister<M,
     }
 
     fn count(&mut self, alloc: Global) -> Result<u64, Fault> {
-        self.course.after(self.memory.count(alloc))
+        self.phase.after(self.memory.count(alloc))
     }
 
     fn participant(&mut self, alloc: Global, bic: Bic) -> Result<bool, Fault> {
-        self.course.after(self.memory.participant(alloc, bic))
+        self.phase.after(self.memory.participant(alloc, bic))
     }
 
     fn owner(&mut self, alloc: Global, account: AccountId) -> Result<Option<Bic>, Fault> {
-        self.course.after(self.memory.owner(alloc, account))
+        self.phase.after(self.memory.owner(alloc, account))
     }
 
     fn security(&mut self, alloc: Global, isin: Isin) -> Result<Option<Kind>, Fault> {
-        self.course.after(self.memory.security(alloc, isin))
+        self.phase.after(self.memory.security(alloc, isin))
     }
 
     fn outstanding(&mut self, alloc: Global, isin: Isin) -> Result<u64, Fault> {
-        self.course.after(self.memory.outstanding(alloc, isin))
+        self.phase.after(self.memory.outstanding(alloc, isin))
     }
 
     fn paid(&mut self, alloc: Global, ccy: Ccy) -> Result<Option<u64>, Fault> {
-        self.course.after(self.memory.paid(alloc, ccy))
+        self.phase.after(self.memory.paid(alloc, ccy))
     }
 
     fn last_run(&mut self, alloc: Global) -> Result<Option<Day>, Fault> {
-        self.course.after(self.memory.last_run(alloc))
+        self.phase.after(self.memory.last_run(alloc))
     }
 
     fn number_of(
@@ -85,20 +84,20 @@ impl<M: MemoryRegister, S: ToldRegister + Drop> Register for MirroredRegister<M,
         sender: Sender,
         reference: Reference,
     ) -> Result<Option<u64>, Fault> {
-        self.course
+        self.phase
             .after(self.memory.number_of(alloc, sender, reference))
     }
 
     fn entry(&mut self, alloc: Global, number: u64) -> Result<Option<Entry>, Fault> {
-        self.course.after(self.memory.entry(alloc, number))
+        self.phase.after(self.memory.entry(alloc, number))
     }
 
     fn standing(&mut self, alloc: Global, number: u64) -> Result<Standing, Fault> {
-        self.course.after(self.memory.standing(alloc, number))
+        self.phase.after(self.memory.standing(alloc, number))
     }
 
     fn reply(&mut self, alloc: Global, number: u64) -> Result<Option<Reply>, Fault> {
-        self.course.after(self.memory.reply(alloc, number))
+        self.phase.after(self.memory.reply(alloc, number))
     }
 
     fn first_opposite(
@@ -107,17 +106,16 @@ impl<M: MemoryRegister, S: ToldRegister + Drop> Register for MirroredRegister<M,
         sender: Bic,
         instruction: &Instruction,
     ) -> Result<Option<u64>, Fault> {
-        self.course
+        self.phase
             .after(self.memory.first_opposite(alloc, sender, instruction))
     }
 
     fn position(&mut self, alloc: Global, account: AccountId, isin: Isin) -> Result<u64, Fault> {
-        self.course
-            .after(self.memory.position(alloc, account, isin))
+        self.phase.after(self.memory.position(alloc, account, isin))
     }
 
     fn cash(&mut self, alloc: Global, bic: Bic, ccy: Ccy) -> Result<u64, Fault> {
-        self.course.after(self.memory.cash(alloc, bic, ccy))
+        self.phase.after(self.memory.cash(alloc, bic, ccy))
     }
 
     fn due_pair_after(
@@ -126,7 +124,7 @@ impl<M: MemoryRegister, S: ToldRegister + Drop> Register for MirroredRegister<M,
         day: Day,
         place: Option<Place>,
     ) -> Result<Option<Place>, Fault> {
-        self.course
+        self.phase
             .after(self.memory.due_pair_after(alloc, day, place))
     }
 
@@ -136,16 +134,16 @@ impl<M: MemoryRegister, S: ToldRegister + Drop> Register for MirroredRegister<M,
         day: Day,
         place: Option<Place>,
     ) -> Result<Option<Place>, Fault> {
-        self.course
+        self.phase
             .after(self.memory.pair_to_try_after(alloc, day, place))
     }
 
     fn stays_short(&mut self, alloc: Global, place: Place) -> Result<bool, Fault> {
-        self.course.after(self.memory.stays_short(alloc, place))
+        self.phase.after(self.memory.stays_short(alloc, place))
     }
 
     fn security_after(&mut self, alloc: Global, isin: Option<Isin>) -> Result<Option<Isin>, Fault> {
-        self.course.after(self.memory.security_after(alloc, isin))
+        self.phase.after(self.memory.security_after(alloc, isin))
     }
 
     fn holding_after(
@@ -154,69 +152,69 @@ impl<M: MemoryRegister, S: ToldRegister + Drop> Register for MirroredRegister<M,
         account: AccountId,
         isin: Option<Isin>,
     ) -> Result<Option<Holding>, Fault> {
-        self.course
+        self.phase
             .after(self.memory.holding_after(alloc, account, isin))
     }
 
     fn held(&mut self, alloc: Global, isin: Isin) -> Result<u64, Fault> {
-        self.course.after(self.memory.held(alloc, isin))
+        self.phase.after(self.memory.held(alloc, isin))
     }
 
     fn held_cash(&mut self, alloc: Global, ccy: Ccy) -> Result<u64, Fault> {
-        self.course.after(self.memory.held_cash(alloc, ccy))
+        self.phase.after(self.memory.held_cash(alloc, ccy))
     }
 
     fn sent_count(&mut self, alloc: Global) -> Result<u64, Fault> {
-        self.course.after(self.memory.sent_count(alloc))
+        self.phase.after(self.memory.sent_count(alloc))
     }
 
     fn sent(&mut self, alloc: Global, bic: Bic, number: u64) -> Result<Option<Sent>, Fault> {
-        self.course.after(self.memory.sent(alloc, bic, number))
+        self.phase.after(self.memory.sent(alloc, bic, number))
     }
 
     fn confirmation(&mut self, alloc: Global, number: u64) -> Result<Option<Sent>, Fault> {
-        self.course.after(self.memory.confirmation(alloc, number))
+        self.phase.after(self.memory.confirmation(alloc, number))
     }
 
     fn append(&mut self, alloc: Global, entry: Entry, reply: Reply) -> Result<(), Fault> {
-        let copy = self.course.copied(reply.try_clone(alloc))?;
+        let copy = self.phase.copied(reply.try_clone(alloc))?;
         self.append_both(alloc, entry, copy, reply)
     }
 
     fn pair(&mut self, alloc: Global, earlier: u64, later: u64) -> Result<(), Fault> {
-        self.course.after(self.tables.pair(alloc, earlier, later))?;
-        self.course.after(self.memory.pair(alloc, earlier, later))
+        self.phase.after(self.tables.pair(alloc, earlier, later))?;
+        self.phase.after(self.memory.pair(alloc, earlier, later))
     }
 
     fn settle_pair(&mut self, alloc: Global, number: u64, day: Day) -> Result<Outcome, Fault> {
         let reason = reason_of_pair(alloc, &mut self.memory, number);
         let outcome = self
-            .course
+            .phase
             .after(self.memory.settle_pair(alloc, number, day))?;
         if is_in_vain(reason, outcome) {
             return Ok(outcome);
         }
         let known = known_pair(alloc, &mut self.memory, number);
         let followed = follow(alloc, &mut self.tables, known, number, day, outcome);
-        self.course.after(followed)?;
+        self.phase.after(followed)?;
         Ok(outcome)
     }
 
     fn cancel(&mut self, alloc: Global, number: u64) -> Result<(), Fault> {
-        self.course.after(self.tables.cancel(alloc, number))?;
-        self.course.after(self.memory.cancel(alloc, number))
+        self.phase.after(self.tables.cancel(alloc, number))?;
+        self.phase.after(self.memory.cancel(alloc, number))
     }
 
     fn cancel_pair(&mut self, alloc: Global, earlier: u64, later: u64) -> Result<(), Fault> {
-        self.course
+        self.phase
             .after(self.tables.cancel_pair(alloc, earlier, later))?;
-        self.course
+        self.phase
             .after(self.memory.cancel_pair(alloc, earlier, later))
     }
 
     fn send(&mut self, alloc: Global, message: Sent) -> Result<(), Fault> {
-        let copy = self.course.copied(copy_of(alloc, &message))?;
-        self.course.after(self.tables.send(alloc, message))?;
-        self.course.after(self.memory.send(alloc, copy))
+        let copy = self.phase.copied(copy_of(alloc, &message))?;
+        self.phase.after(self.tables.send(alloc, message))?;
+        self.phase.after(self.memory.send(alloc, copy))
     }
 }

@@ -1,6 +1,6 @@
 //! How a register that is two fares.
 ghost use Rattle.std.specs.Prelude.{◌≡◌};
-ghost use Rattle.desk_mirror.specs.Course.{Counts, IsAfter, IsCopied, fallen_phase};
+ghost use Rattle.desk_mirror.specs.Course.{IsAfter, IsCopied, fallen_phase};
 
 use desk_register::Fault;
 use std::alloc::AllocError;
@@ -18,62 +18,24 @@ pub enum Phase {
     Lost,
 }
 
-/// How a register that is two fares: its phase, and how many of its answers named the device.
-#[derive(Clone, Copy)]
-pub struct Course {
-    pub(crate) phase: Phase,
-    /// It stops at the greatest number
-    pub(crate) failures: u64,
-}
-
-/// The phase after a call that failed.
-fn fallen(phase: Phase) -> Phase
-    ensures { result ≡ fallen_phase phase }
-{
-    match phase {
-        Phase::Begun => Phase::Failed,
-        other => other,
-    }
-}
-
-impl Course {
-    /// Counts a fault that names the device.
-    fn count(&mut self, fault: Fault)
-        ensures phase { self.new.phase ≡ self.old.phase }
-        ensures counts { Counts fault self.old.failures self.new.failures }
-    {
-        match fault {
-            Fault::Memory => (),
-            Fault::Storage => self.failures = self.failures.saturating_add(1),
-        }
-    }
-
+impl Phase {
     /// A call has failed.
-    fn fall(&mut self, fault: Fault)
-        ensures phase { self.new.phase ≡ fallen_phase self.old.phase }
-        ensures counts { Counts fault self.old.failures self.new.failures }
+    fn fall(&mut self)
+        ensures { self.new ≡ fallen_phase self.old }
     {
-        self.phase = fallen(self.phase);
-        self.count(fault);
-    }
-
-    /// The tables did not go back.
-    pub(crate) fn lose(&mut self, fault: Fault)
-        ensures phase { self.new.phase ≡ Phase.Lost }
-        ensures counts { Counts fault self.old.failures self.new.failures }
-    {
-        self.phase = Phase::Lost;
-        self.count(fault);
+        if matches!(*self, Phase::Begun) {
+            *self = Phase::Failed;
+        }
     }
 
     /// The copy of what both are to keep; want of memory is told as a fault.
     pub(crate) fn copied<T>(&mut self, given: Result<T, AllocError>) -> Result<T, Fault>
-        ensures { IsCopied given result self.old.phase self.new.phase self.old.failures self.new.failures }
+        ensures { IsCopied given result self.old self.new }
     {
         match given {
             Ok(copy) => Ok(copy),
             Err(_) => {
-                self.fall(Fault::Memory);
+                self.fall();
                 Err(Fault::Memory)
             }
         }
@@ -82,14 +44,11 @@ impl Course {
     /// The end of a call of one of the two, as the register's own.
     pub(crate) fn after<T>(&mut self, given: Result<T, Fault>) -> Result<T, Fault>
         ensures same { result ≡ given }
-        ensures after { IsAfter given self.old.phase self.new.phase self.old.failures self.new.failures }
+        ensures after { IsAfter given self.old self.new }
     {
-        match given {
-            Ok(value) => Ok(value),
-            Err(fault) => {
-                self.fall(fault);
-                Err(fault)
-            }
+        if given.is_err() {
+            self.fall();
         }
+        given
     }
 }

@@ -6,7 +6,7 @@ ghost use Rattle.desk_register.specs.declared.register.Stage.TheVariants.{Begun,
 ghost use Rattle.desk_mirror.specs.Both.{HasSame, shown};
 ghost use Rattle.desk_mirror.specs.Mirrored.{HasSameMark};
 
-use crate::course::{Course, Phase};
+use crate::course::Phase;
 use desk_register::{Fault, MemoryRegister, Register, ToldRegister};
 use desk_rules::{Entry, Reply};
 use std::alloc::Global;
@@ -18,7 +18,7 @@ use std::marker::Model;
 pub struct MirroredRegister<M: MemoryRegister, S: ToldRegister + Drop> {
     pub(crate) memory: M,
     pub(crate) tables: S,
-    pub(crate) course: Course,
+    pub(crate) phase: Phase,
 }
 
 impl<M: MemoryRegister, S: ToldRegister + Drop> Model for MirroredRegister<M, S> {
@@ -29,9 +29,9 @@ impl<M: MemoryRegister, S: ToldRegister + Drop> Model for MirroredRegister<M, S>
 
     ghost coded = { both_code M.code S.code };
 
-    ghost view = { λ r. record { memory = r.memory; tables = r.tables; stage = stage_of r.course.phase; failures = r.course.failures } };
+    ghost view = { λ r. record { memory = r.memory; tables = r.tables; stage = stage_of r.phase } };
 
-    ghost invariant = { λ r. AreMirrored r.course.phase (M.view r.memory) (S.view r.tables) };
+    ghost invariant = { λ r. AreMirrored r.phase (M.view r.memory) (S.view r.tables) };
 }
 
 impl<M: MemoryRegister, S: ToldRegister + Drop> MirroredRegister<M, S> {
@@ -44,15 +44,11 @@ impl<M: MemoryRegister, S: ToldRegister + Drop> MirroredRegister<M, S> {
         ensures memory { result.memory ≡ memory }
         ensures tables { result.tables ≡ tables }
         ensures stage { result.stage ≡ Idle }
-        ensures no_failure { result.failures ≡ 0 }
     {
         MirroredRegister {
             memory,
             tables,
-            course: Course {
-                phase: Phase::Idle,
-                failures: 0,
-            },
+            phase: Phase::Idle,
         }
     }
 
@@ -60,9 +56,9 @@ impl<M: MemoryRegister, S: ToldRegister + Drop> MirroredRegister<M, S> {
     /// with no `begin` open they have none open either, so that this is what they have committed.
     pub fn tables(&self) -> &S
         ensures tables { result.now ≡ self.now.tables }
-        ensures same { self.now.stage ≢ Failed → HasSame (shown (M.view self.now.memory) self.now.stage self.now.failures) (S.view result.now) }
+        ensures same { self.now.stage ≢ Failed → HasSame (M.view self.now.memory) (S.view result.now) }
         ensures idle { self.now.stage ≡ Idle → (S.view result.now).stage ≡ Idle }
-        ensures begun { self.now.stage ≡ Begun → HasSameMark (shown (M.view self.now.memory) self.now.stage self.now.failures) (S.view result.now) }
+        ensures begun { self.now.stage ≡ Begun → HasSameMark (M.view self.now.memory) (S.view result.now) }
     {
         &self.tables
     }
@@ -71,9 +67,9 @@ impl<M: MemoryRegister, S: ToldRegister + Drop> MirroredRegister<M, S> {
     pub fn into_parts(self) -> (M, S)
         ensures memory { result.0 ≡ self.memory }
         ensures tables { result.1 ≡ self.tables }
-        ensures same { self.stage ≢ Failed → HasSame (shown (M.view result.0) self.stage self.failures) (S.view result.1) }
+        ensures same { self.stage ≢ Failed → HasSame (M.view result.0) (S.view result.1) }
         ensures idle { self.stage ≡ Idle → (S.view result.1).stage ≡ Idle }
-        ensures begun { self.stage ≡ Begun → HasSameMark (shown (M.view result.0) self.stage self.failures) (S.view result.1) }
+        ensures begun { self.stage ≡ Begun → HasSameMark (M.view result.0) (S.view result.1) }
     {
         (self.memory, self.tables)
     }
@@ -90,10 +86,10 @@ impl<M: MemoryRegister, S: ToldRegister + Drop> MirroredRegister<M, S> {
         requires stage { self.old.stage ≡ Begun }
         requires fits { IfTrusted (M.view self.old.memory) (M.view self.old.memory) (CanAppend (M.view self.old.memory).room entry reply (M.view self.old.memory).content) }
         ensures added { IfTrusted (M.view self.old.memory) (M.view self.new.memory) (OnOk result ((M.view self.new.memory).content ≡ appended entry reply (M.view self.old.memory).content)) }
-        ensures change { IsChange result (shown (M.view self.old.memory) self.old.stage self.old.failures) (shown (M.view self.new.memory) self.new.stage self.new.failures) }
+        ensures change { IsChange result (shown (M.view self.old.memory) self.old.stage (S.view self.old.tables)) (shown (M.view self.new.memory) self.new.stage (S.view self.new.tables)) }
     {
         let again = entry;
-        self.course.after(self.tables.append(alloc, entry, copy))?;
-        self.course.after(self.memory.append(alloc, again, reply))
+        self.phase.after(self.tables.append(alloc, entry, copy))?;
+        self.phase.after(self.memory.append(alloc, again, reply))
     }
 }

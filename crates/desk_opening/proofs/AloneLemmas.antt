@@ -19,8 +19,8 @@ module _ {S : Type 0} (store : Ghosts S) (limit : ℕ) (both : Both ListRegister
   said : HasCleanDisk (state store both.tables.connection) → (view_of_lists both.memory).content ≡ content_in (state store both.tables.connection).now
   said clean = sym (opened.keep clean).audited.becomes.content_is
 
-  its_ready : IsReadyFor limit (shown (state store both.tables.connection) both.tables.stage both.tables.failures both.tables.room)
-  its_ready = ready limit (shown (state store both.tables.connection) both.tables.stage both.tables.failures both.tables.room) opened.tables.stage (λ clean. (opened.keep clean).is_open) opened.tables.failures
+  its_ready : IsReadyFor limit (shown (state store both.tables.connection) both.tables.stage both.tables.room)
+  its_ready = ready limit (shown (state store both.tables.connection) both.tables.stage both.tables.room) opened.tables.stage (λ clean. (opened.keep clean).is_open) (λ clean. (opened.keep clean).is_open)
       opened.tables.room
       (λ clean. subst (HoldsFormed limit) (said clean) (let a = (opened.keep clean).audited in record { held = a.held; formed = a.formed }))
 

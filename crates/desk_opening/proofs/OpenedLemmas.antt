@@ -1,5 +1,5 @@
 -- A register that is two, of parts of which all is known.
-use Rattle.std.proofs.Common.{◌≡◌, ℕ, Some, sym, subst}
+use Rattle.std.proofs.Common.{◌≡◌, ℕ, Some, sym, subst, IsTrue}
 use Rattle.sqlite.specs.Effect.{Database}
 use Rattle.sqlite.specs.Held.{state}
 use Rattle.sqlite.specs.State.{HasCleanDisk}
@@ -33,10 +33,10 @@ nothing_audited db limit content empty becomes version =
 -- ---- both
 
 module _ {S : Type 0} (store : Ghosts S) (limit : ℕ) (both : Both ListRegister (Kept S)) (memory : ListRegister) (tables : Kept S) (is_memory : both.memory ≡ memory) (is_tables : both.tables ≡ tables) where
-  pub opened_as : both.stage ≡ Idle → both.failures ≡ 0 → (view_of_lists memory).room ≡ limit → HoldsFormed limit (view_of_lists memory).content → AreReadyTables limit tables
+  pub opened_as : both.stage ≡ Idle → (view_of_lists memory).room ≡ limit → HoldsFormed limit (view_of_lists memory).content → AreReadyTables limit tables
       → (HasCleanDisk (state store tables.connection) → KeepAudited (state store tables.connection) limit (view_of_lists memory).content) → IsOpened store limit both
-  opened_as stage failures room holds ready keep = record {
-    ready = both_ready limit both stage failures (subst (λ (m : ListRegister). (view_of_lists m).room ≡ limit) (sym is_memory) room)
+  opened_as stage room holds ready keep = record {
+    ready = both_ready store limit both stage (subst (λ (t : Kept S). HasCleanDisk (state store t.connection) → IsTrue (state store t.connection).is_open) (sym is_tables) (λ clean. (keep clean).is_open)) (subst (λ (m : ListRegister). (view_of_lists m).room ≡ limit) (sym is_memory) room)
         (subst (λ (m : ListRegister). HoldsFormed limit (view_of_lists m).content) (sym is_memory) holds);
     tables = subst (AreReadyTables limit) (sym is_tables) ready;
     keep = subst (λ (t : Kept S). HasCleanDisk (state store t.connection) → KeepAudited (state store t.connection) limit (view_of_lists both.memory).content) (sym is_tables)

@@ -18,7 +18,7 @@ use Rattle.memory_register.specs.declared.list_register.ListRegister.{ListRegist
 use Rattle.desk_mirror.specs.Both.{Both, shown}
 use Rattle.sql_opening.specs.Order.{AreInOrder}
 use Rattle.sql_register.specs.Holds.{Becomes}
-use Rattle.sql_register.specs.Kept.{Kept}
+use Rattle.sql_register.specs.Kept.{Kept, view_of}
 use Rattle.sql_tables.specs.Schema.{no_schema}
 use Rattle.audit_desk.specs.Audited.{IsAudited}
 use Rattle.audit_entries.specs.Reading.{HoldsFormed}
@@ -40,11 +40,10 @@ pub record FindsIn (image : Image) (new : Database) (content : Content) : Type 0
   pub only : (trees : Trees) → HoldsDatabase image trees → old.trees ≡ trees
   pub finds : Finds old new content
 
--- A register is ready for a desk that may hold so many entries: a desk can be made over it, no failure is counted, and what it
--- holds is an accepted history of well-formed entries.
+-- A register is ready for a desk that may hold so many entries: a desk can be made over it, and what it holds is an accepted
+-- history of well-formed entries.
 pub record IsReadyFor (limit : ℕ) (view : View) : Type 0 where
   pub desk : IsReady false view
-  pub failures : view.failures ≡ 0
   pub room : view.room ≡ limit
   pub holds : view.is_honest → HoldsFormed limit view.content
 
@@ -56,18 +55,17 @@ pub record KeepAudited (s : State) (limit : ℕ) (content : Content) : Type 0 wh
   pub audited : IsAudited s.now limit content
 
 -- the register that is two, as contracts of `Register` see it
-abbrev pub view_of_both : {S : Type 0} → Both ListRegister (Kept S) → View
-view_of_both both = shown (view_of_lists both.memory) both.stage both.failures
+abbrev pub view_of_both : {S : Type 0} → Ghosts S → Both ListRegister (Kept S) → View
+view_of_both store both = shown (view_of_lists both.memory) both.stage (view_of store both.tables)
 
--- the tables have no `begin` open and no failure counted, and have room for so many entries
+-- the tables have no `begin` open, and have room for so many entries
 pub record AreReadyTables {S : Type 0} (limit : ℕ) (tables : Kept S) : Type 0 where
   pub stage : tables.stage ≡ Idle
-  pub failures : tables.failures ≡ 0
   pub room : tables.room ≡ limit
 
 -- A register that is two was opened: it is ready, and the tables say what it holds.
 pub record IsOpened {S : Type 0} (store : Ghosts S) (limit : ℕ) (both : Both ListRegister (Kept S)) : Type 0 where
-  pub ready : IsReadyFor limit (view_of_both both)
+  pub ready : IsReadyFor limit (view_of_both store both)
   pub tables : AreReadyTables limit both.tables
   pub keep : HasCleanDisk (state store both.tables.connection) → KeepAudited (state store both.tables.connection) limit (view_of_lists both.memory).content
 

@@ -43,9 +43,9 @@ read_err fault a b p = record { same = λ h s. tt; ok = tt; err = p.err; later =
 pub read_none : (a : View) → HasRead a a
 read_none a = record {
   same = λ h s. refl;
-  ok = record { stage = refl; sure = λ h s. s; mark = λ h s. refl; failures = λ h few. refl };
+  ok = record { stage = refl; sure = λ h s. s; mark = λ h s. refl; device = λ h s. s };
   err = tt;
-  later = record { honest = λ h. h; sure = λ h s. s; failures = omega arith; room = refl };
+  later = record { honest = λ h. h; sure = λ h s. s; room = refl; device_honest = λ h. h; failures = omega arith };
   blame = blames_none tt a a;
 }
 

@@ -1,11 +1,20 @@
 -- What contracts see of a register, and how its calls change it.
 use Rattle.std.specs.Prelude.{◌≡◌, ◌≢◌, ℕ, ◌<◌, ◌≤◌, ⊤, Result, Ok, Err, OnOk, OnErr}
 use Rattle.desk_register.specs.declared.register.Fault.{Fault}
-use Rattle.desk_register.specs.declared.register.Fault.TheVariants.{Memory, Storage}
+use Rattle.desk_register.specs.declared.register.Fault.TheVariants.{Storage}
 use Rattle.desk_register.specs.declared.register.Stage.{Stage}
 use Rattle.desk_register.specs.declared.register.Stage.TheVariants.{Idle, Begun, Failed}
 use Rattle.desk_register.specs.declared.register.TheConstants.{MOST_FAILURES}
 use Rattle.desk_rules.specs.Content.{Content}
+
+-- The device under a register, as its store tells of it.
+pub record Device : Type 1 where
+  -- how often it has failed; a count that stops at the greatest
+  pub failures : ℕ
+  -- no wrong answer of it was taken as true; it may be lost at any call
+  pub is_honest : Type 0
+  -- it has not shut the store
+  pub is_sure : Type 0
 
 pub record View : Type 1 where
   -- what it holds now
@@ -14,14 +23,14 @@ pub record View : Type 1 where
   pub mark : Content
   -- whether a `begin` is open, and whether a call has failed since
   pub stage : Stage
-  -- how many answers named the device; a count that stops at the greatest
-  pub failures : ℕ
   -- the greatest number of entries
   pub room : ℕ
   -- no wrong answer of the device was taken as true; it may be lost at any call
   pub is_honest : Type 0
   -- the device has not shut the store, so what it shows is what it holds
   pub is_sure : Type 0
+  -- what it is kept on; of a register in memory beside one that is kept on a device, the other's
+  pub device : Device
 
 -- Where answers over a call are to be trusted, this holds: no wrong answer of the device was taken as true up to the
 -- call's end, and the device had not shut the store at its beginning. (Of one moment, as in a `requires`: twice the
@@ -34,10 +43,10 @@ IfTrusted old new fact = new.is_honest → old.is_sure → fact
 abbrev pub IfRead : View → View → Type 0 → Type 0
 IfRead old new fact = IfTrusted old new (old.stage ≢ Failed → fact)
 
--- Where the count of a register's failures is to be trusted, this holds: no wrong answer of the device was taken as
--- true, and the count has not come to its end.
+-- Where the count of a device's failures is to be trusted, this holds: no wrong answer of it was taken as true, and the
+-- count has not come to its end.
 abbrev pub IfCounted : View → Type 0 → Type 0
-IfCounted view fact = view.is_honest → view.failures < MOST_FAILURES → fact
+IfCounted view fact = view.is_honest → view.device.is_honest → view.device.failures < MOST_FAILURES → fact
 
 -- the stage after a call that failed
 abbrev pub fallen : Stage → Stage
@@ -50,8 +59,13 @@ module _ (old new : View) where
   pub record IsLater : Type 0 where
     pub honest : new.is_honest → old.is_honest
     pub sure : new.is_honest → new.is_sure → old.is_sure
-    pub failures : old.failures ≤ new.failures
     pub room : new.room ≡ old.room
+    pub device_honest : new.device.is_honest → old.device.is_honest
+    pub failures : old.device.failures ≤ new.device.failures
+
+  -- the device has not shut the store in the call
+  abbrev pub StaysSure : Type 0
+  StaysSure = new.device.is_honest → old.device.is_sure → new.device.is_sure
 
   -- a `begin` is open, and what it goes back to is marked
   pub record Begins : Type 0 where
@@ -59,28 +73,28 @@ module _ (old new : View) where
     pub sure : IfTrusted old new new.is_sure
     pub content : IfTrusted old new (new.content ≡ old.content)
     pub mark : IfTrusted old new (new.mark ≡ old.content)
-    pub failures : IfCounted new (new.failures ≡ old.failures)
+    pub device : StaysSure
 
   -- what was changed since `begin` is kept
   pub record Commits : Type 0 where
     pub stage : new.stage ≡ Idle
     pub sure : IfTrusted old new new.is_sure
     pub content : IfTrusted old new (new.content ≡ old.content)
-    pub failures : IfCounted new (new.failures ≡ old.failures)
+    pub device : StaysSure
 
   -- what was changed since `begin` is taken back
   pub record GoesBack : Type 0 where
     pub stage : new.stage ≡ Idle
     pub sure : new.is_honest → new.is_sure
     pub content : new.is_honest → new.content ≡ old.mark
-    pub failures : IfCounted new (new.failures ≡ old.failures)
+    pub device : new.device.is_honest → new.device.is_sure
 
   -- a call went well: what is marked stays
   pub record Stays : Type 0 where
     pub stage : new.stage ≡ old.stage
     pub sure : IfTrusted old new new.is_sure
     pub mark : IfTrusted old new (new.mark ≡ old.mark)
-    pub failures : IfCounted new (new.failures ≡ old.failures)
+    pub device : StaysSure
 
   -- a call failed: what is marked stays, and with no `begin` open the content does
   pub record Falls : Type 0 where
@@ -88,11 +102,10 @@ module _ (old new : View) where
     pub mark : new.is_honest → new.is_sure → new.mark ≡ old.mark
     pub content : new.is_honest → new.is_sure → old.stage ≡ Idle → new.content ≡ old.content
 
--- The device is blamed where it failed in the call, and nowhere else: the count of its failures has grown after a
--- storage fault, and is as it was after want of memory.
+-- The device is blamed where it failed in the call: where no call had failed since `begin`, and the device had not shut the
+-- store before, the count of its failures has grown after a storage fault.
 pub record Blames {X : Type 0} (result : Result X Fault) (old new : View) : Type 0 where
-  pub storage : result ≡ Err Storage → IfCounted new (old.failures < new.failures)
-  pub memory : result ≡ Err Memory → IfCounted new (new.failures ≡ old.failures)
+  pub storage : result ≡ Err Storage → old.stage ≢ Failed → old.is_sure → old.device.is_sure → IfCounted new (old.device.failures < new.device.failures)
 
 -- how a reading call ends: where it goes well nothing has changed
 pub record IsRead {X : Type 0} (result : Result X Fault) (old new : View) : Type 0 where

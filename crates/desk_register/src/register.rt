@@ -89,7 +89,6 @@ pub trait Register {
         requires { (view self.old).stage ≢ Stage.Idle }
         ensures ok { OnOk result (GoesBack (view self.old) (view self.new)) }
         ensures later { IsLater (view self.old) (view self.new) }
-        ensures blame { Blames result (view self.old) (view self.new) }
         ensures in_memory { in_memory ≡ true → IsOk result };
 
     /// The greatest number of entries, `MOST_ENTRIES` at most.

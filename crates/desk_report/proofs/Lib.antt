@@ -1,4 +1,5 @@
 mod MemberLemmas
 mod PieceLemmas
 mod PartLemmas
+mod SumLemmas
 mod TotalLemmas

@@ -10,8 +10,7 @@ use Rattle.serde_json.specs.View.{items_of}
 use Rattle.serde_json.specs.Written.{comma_if, compact_text}
 use Rattle.desk_rules.specs.Books.{Books}
 use Rattle.desk_rules.specs.Content.{Content}
-use Rattle.desk_register.specs.View.{HasRead, IfTrusted, IsLater, View}
-use Rattle.desk_register.specs.Ends.{HaveRead}
+use Rattle.desk_register.specs.View.{HasRead, IfTrusted, IsLater, View, IsRead}
 use Rattle.desk_register.proofs.ReadingLemmas.{read_on}
 use Rattle.desk_register.proofs.ReadLemmas.{read_none}
 use Rattle.desk_book.proofs.TellingLemmas.{known_of}
@@ -179,7 +178,7 @@ writing_begins parts v0 before = record { read = read_none v0; written = λ book
 
 module _ (parts : Parts) (v0 v : View) (index : ℕ) (is_later : Bool) (before between : Option (List ℕ)) (w : Writing parts v0 v index is_later before between) where
   module _ (part : Part) (within : index < 5) (at : get_or all_parts index Accounts ≡ part) where
-    pub step_asked : is_asked parts part ≡ true → (v1 : View) (now : Option (List ℕ)) → HaveRead {X = Unit {0}} (Ok tt) v v1
+    pub step_asked : is_asked parts part ≡ true → (v1 : View) (now : Option (List ℕ)) → IsRead {X = Unit {0}} (Ok tt) v v1
         → ((books : Books) → IfTrusted v v1 (Keeps v.room books v.content → WritesWhole (IsMemberText books v.content part is_later) between now)) → Writing parts v0 v1 (index + 1) true before now
     step_asked asked v1 now read writes = record {
       read = read_on v0 v w.read tt v1 read;

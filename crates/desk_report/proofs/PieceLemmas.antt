@@ -67,6 +67,7 @@ pub ready_still : (v0 v : View) → IsReady false v0 → HasRead v0 v → IsRead
 ready_still v0 v ready read = record {
   stage = λ is. read.ok.stage ∙ ready.stage refl;
   sure = λ is honest. read.ok.sure honest (ready.sure refl (read.later.honest honest));
+  device = λ is honest. read.ok.device honest (ready.device refl (read.later.device_honest honest));
   books = λ is honest.
       let held = ready.books refl (read.later.honest honest) in
       let C : Content → Type 0 = λ z. KeepsFormed v.room held.0 z in

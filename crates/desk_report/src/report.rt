@@ -3,9 +3,9 @@ ghost use Rattle.std.specs.Prelude.{◌≡◌, ◌≢◌, ◌++◌, true, false,
 ghost use Rattle.std.specs.Io.KnownBytes.{Appends};
 ghost use Rattle.serde_json.specs.Written.{comma_if};
 ghost use Rattle.desk_rules.specs.Books.{Books};
-ghost use Rattle.desk_register.specs.View.{IfTrusted};
+ghost use Rattle.desk_register.specs.View.{IfTrusted, IsRead};
 ghost use Rattle.desk_engine.specs.Applied.{Keeps};
-ghost use Rattle.desk_register.specs.Ends.{HaveRead, at_register};
+ghost use Rattle.desk_register.specs.Ends.{at_register};
 ghost use Rattle.desk_engine.specs.Ready.{IsReady};
 ghost use Rattle.desk_book.specs.RowByRow.{WritesText};
 ghost use Rattle.desk_report.specs.Report.{IsReportText};
@@ -57,7 +57,7 @@ pub fn write_report<R: Register, W: Sink>(
     requires ready { IsReady false (R.view register.old) }
     ensures written { format ≡ Format.Json → (books : Books) → IfTrusted (R.view register.old) (R.view register.new) (Keeps (R.view register.old).room books (R.view register.old).content
         → WritesText (IsReportText books (R.view register.old).content parts) result (W.contents writer.old) (W.contents writer.new)) }
-    ensures read { HaveRead (at_register result) (R.view register.old) (R.view register.new) }
+    ensures read { IsRead (at_register result) (R.view register.old) (R.view register.new) }
     ensures unwritten { result ≡ Err (WalkFault.Sink SinkFault.Write) → W.may_fail ≡ true }
 {
     match format {
@@ -76,7 +76,7 @@ fn write_object<R: Register, W: Sink>(
     requires ready { IsReady false (R.view register.old) }
     ensures written { (books : Books) → IfTrusted (R.view register.old) (R.view register.new) (Keeps (R.view register.old).room books (R.view register.old).content
         → WritesText (IsReportText books (R.view register.old).content parts) result (W.contents writer.old) (W.contents writer.new)) }
-    ensures read { HaveRead (at_register result) (R.view register.old) (R.view register.new) }
+    ensures read { IsRead (at_register result) (R.view register.old) (R.view register.new) }
     ensures unwritten { result ≡ Err (WalkFault.Sink SinkFault.Write) → W.may_fail ≡ true }
 {
     write_text(writer, b"{")?;
@@ -94,7 +94,7 @@ fn write_members<R: Register, W: Sink>(
     requires ready { IsReady false (R.view register.old) }
     ensures written { (books : Books) → IfTrusted (R.view register.old) (R.view register.new) (Keeps (R.view register.old).room books (R.view register.old).content
         → WritesText (AreMembersText books (R.view register.old).content parts) result (W.contents writer.old) (W.contents writer.new)) }
-    ensures read { HaveRead (at_register result) (R.view register.old) (R.view register.new) }
+    ensures read { IsRead (at_register result) (R.view register.old) (R.view register.new) }
     ensures unwritten { result ≡ Err (WalkFault.Sink SinkFault.Write) → W.may_fail ≡ true }
 {
     let mut is_later = false;
@@ -119,7 +119,7 @@ fn write_member<R: Register, W: Sink>(
     requires ready { IsReady false (R.view register.old) }
     ensures written { (books : Books) → IfTrusted (R.view register.old) (R.view register.new) (Keeps (R.view register.old).room books (R.view register.old).content
         → WritesText (IsMemberText books (R.view register.old).content part is_later) result (W.contents writer.old) (W.contents writer.new)) }
-    ensures read { HaveRead (at_register result) (R.view register.old) (R.view register.new) }
+    ensures read { IsRead (at_register result) (R.view register.old) (R.view register.new) }
     ensures unwritten { result ≡ Err (WalkFault.Sink SinkFault.Write) → W.may_fail ≡ true }
 {
     write_label(writer, part, is_later)?;
@@ -145,7 +145,7 @@ fn write_value<R: Register, W: Sink>(
     requires ready { IsReady false (R.view register.old) }
     ensures written { (books : Books) → IfTrusted (R.view register.old) (R.view register.new) (Keeps (R.view register.old).room books (R.view register.old).content
         → WritesText (IsPartText books (R.view register.old).content part) result (W.contents writer.old) (W.contents writer.new)) }
-    ensures read { HaveRead (at_register result) (R.view register.old) (R.view register.new) }
+    ensures read { IsRead (at_register result) (R.view register.old) (R.view register.new) }
     ensures unwritten { result ≡ Err (WalkFault.Sink SinkFault.Write) → W.may_fail ≡ true }
 {
     match part {
@@ -165,7 +165,7 @@ fn write_totals<R: Register, W: Sink>(
     requires ready { IsReady false (R.view register.old) }
     ensures written { (books : Books) → IfTrusted (R.view register.old) (R.view register.new) (Keeps (R.view register.old).room books (R.view register.old).content
         → WritesText (IsPartText books (R.view register.old).content Part.Sums) result (W.contents writer.old) (W.contents writer.new)) }
-    ensures read { HaveRead (at_register result) (R.view register.old) (R.view register.new) }
+    ensures read { IsRead (at_register result) (R.view register.old) (R.view register.new) }
     ensures unwritten { result ≡ Err (WalkFault.Sink SinkFault.Write) → W.may_fail ≡ true }
 {
     write_sums(alloc, register, writer)?;
@@ -182,7 +182,7 @@ fn write_array<R: Register, W: Sink>(
     requires ready { IsReady false (R.view register.old) }
     ensures written { (books : Books) → IfTrusted (R.view register.old) (R.view register.new) (Keeps (R.view register.old).room books (R.view register.old).content → part ≢ Part.Sums
         → WritesText (IsPartText books (R.view register.old).content part) result (W.contents writer.old) (W.contents writer.new)) }
-    ensures read { HaveRead (at_register result) (R.view register.old) (R.view register.new) }
+    ensures read { IsRead (at_register result) (R.view register.old) (R.view register.new) }
     ensures unwritten { result ≡ Err (WalkFault.Sink SinkFault.Write) → W.may_fail ≡ true }
 {
     write_text(writer, b"[")?;
@@ -201,7 +201,7 @@ fn write_rows<R: Register, W: Sink>(
     requires ready { IsReady false (R.view register.old) }
     ensures written { format ≡ Format.Json → (books : Books) → IfTrusted (R.view register.old) (R.view register.new) (Keeps (R.view register.old).room books (R.view register.old).content
         → part ≢ Part.Sums → WritesText (AreRowsOf books (R.view register.old).content part) result (W.contents writer.old) (W.contents writer.new)) }
-    ensures read { HaveRead (at_register result) (R.view register.old) (R.view register.new) }
+    ensures read { IsRead (at_register result) (R.view register.old) (R.view register.new) }
     ensures unwritten { result ≡ Err (WalkFault.Sink SinkFault.Write) → W.may_fail ≡ true }
 {
     match part {
@@ -221,7 +221,7 @@ fn write_lines<R: Register, W: Sink>(
     writer: &mut W,
 ) -> Result<(), WalkFault>
     requires ready { IsReady false (R.view register.old) }
-    ensures read { HaveRead (at_register result) (R.view register.old) (R.view register.new) }
+    ensures read { IsRead (at_register result) (R.view register.old) (R.view register.new) }
     ensures unwritten { result ≡ Err (WalkFault.Sink SinkFault.Write) → W.may_fail ≡ true }
 {
     let mut is_later = false;
@@ -244,7 +244,7 @@ fn write_part<R: Register, W: Sink>(
     writer: &mut W,
 ) -> Result<(), WalkFault>
     requires ready { IsReady false (R.view register.old) }
-    ensures read { HaveRead (at_register result) (R.view register.old) (R.view register.new) }
+    ensures read { IsRead (at_register result) (R.view register.old) (R.view register.new) }
     ensures unwritten { result ≡ Err (WalkFault.Sink SinkFault.Write) → W.may_fail ≡ true }
 {
     write_heading(writer, part, is_later)?;

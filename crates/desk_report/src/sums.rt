@@ -1,6 +1,7 @@
 //! The totals in lines of aligned text, for people. (As JSON `desk_book` writes them.)
 ghost use Rattle.std.specs.Prelude.{◌≡◌, ◌≢◌, true, Err};
-ghost use Rattle.desk_register.specs.Ends.{HaveRead, at_register};
+ghost use Rattle.desk_register.specs.View.{IsRead};
+ghost use Rattle.desk_register.specs.Ends.{at_register};
 
 use desk_book::{CashTotal, SecurityTotal};
 use desk_codes::{CURRENCIES, Ccy, Isin};
@@ -19,7 +20,7 @@ pub fn write_sum_lines<R: Register, W: Sink>(
     writer: &mut W,
 ) -> Result<(), WalkFault>
     requires stage { (R.view register.old).stage ≡ Stage.Idle }
-    ensures read { HaveRead (at_register result) (R.view register.old) (R.view register.new) }
+    ensures read { IsRead (at_register result) (R.view register.old) (R.view register.new) }
     ensures in_memory { R.in_memory ≡ true → result ≢ Err WalkFault.Memory }
     ensures unwritten { result ≡ Err (WalkFault.Sink SinkFault.Write) → W.may_fail ≡ true }
 {
@@ -34,7 +35,7 @@ fn write_currencies<R: Register, W: Sink>(
     writer: &mut W,
 ) -> Result<(), WalkFault>
     requires stage { (R.view register.old).stage ≡ Stage.Idle }
-    ensures read { HaveRead (at_register result) (R.view register.old) (R.view register.new) }
+    ensures read { IsRead (at_register result) (R.view register.old) (R.view register.new) }
     ensures in_memory { R.in_memory ≡ true → result ≢ Err WalkFault.Memory }
     ensures unwritten { result ≡ Err (WalkFault.Sink SinkFault.Write) → W.may_fail ≡ true }
 {
@@ -52,7 +53,7 @@ fn write_currency<R: Register, W: Sink>(
     writer: &mut W,
 ) -> Result<(), WalkFault>
     requires stage { (R.view register.old).stage ≡ Stage.Idle }
-    ensures read { HaveRead (at_register result) (R.view register.old) (R.view register.new) }
+    ensures read { IsRead (at_register result) (R.view register.old) (R.view register.new) }
     ensures in_memory { R.in_memory ≡ true → result ≢ Err WalkFault.Memory }
     ensures unwritten { result ≡ Err (WalkFault.Sink SinkFault.Write) → W.may_fail ≡ true }
 {
@@ -70,7 +71,7 @@ fn write_securities<R: Register, W: Sink>(
     writer: &mut W,
 ) -> Result<(), WalkFault>
     requires stage { (R.view register.old).stage ≡ Stage.Idle }
-    ensures read { HaveRead (at_register result) (R.view register.old) (R.view register.new) }
+    ensures read { IsRead (at_register result) (R.view register.old) (R.view register.new) }
     ensures in_memory { R.in_memory ≡ true → result ≢ Err WalkFault.Memory }
     ensures unwritten { result ≡ Err (WalkFault.Sink SinkFault.Write) → W.may_fail ≡ true }
 {
@@ -94,7 +95,7 @@ fn write_security<R: Register, W: Sink>(
     writer: &mut W,
 ) -> Result<(), WalkFault>
     requires stage { (R.view register.old).stage ≡ Stage.Idle }
-    ensures read { HaveRead (at_register result) (R.view register.old) (R.view register.new) }
+    ensures read { IsRead (at_register result) (R.view register.old) (R.view register.new) }
     ensures in_memory { R.in_memory ≡ true → result ≢ Err WalkFault.Memory }
     ensures unwritten { result ≡ Err (WalkFault.Sink SinkFault.Write) → W.may_fail ≡ true }
 {

@@ -94,6 +94,8 @@ fn play_over_both<T: ToldRegister + Drop>(
     digest: &mut Digest,
 ) -> Result<(), Failure>
     requires stage { (T.view tables).stage ≡ Idle }
+    requires sure { (T.view tables).is_honest → (T.view tables).is_sure }
+    requires device { (T.view tables).device.is_honest → (T.view tables).device.is_sure }
     requires empty { IfTrusted (T.view tables) (T.view tables) ((T.view tables).content ≡ empty_content) }
 {
     let memory = ListRegister::new(alloc, tables.limit());

@@ -7,5 +7,5 @@ use desk_register::MemoryRegister;
 impl MemoryRegister for ListRegister {
     ghost is_in_memory = { refl };
 
-    ghost has_no_device = { λ _. record { honest = tt; sure = tt; failures = refl } };
+    ghost has_no_device = { λ _. record { honest = tt; sure = tt; device_honest = tt; device_sure = tt; failures = refl } };
 }

@@ -1,6 +1,7 @@
 -- What contracts see of the rows of a register in memory.
 use Rattle.memory_rows.specs.declared.rows.Rows.{Rows}
 use Rattle.memory_rows.specs.Lists.{content_in, listed, undone}
+use Rattle.desk_register.specs.Device.{no_device}
 use Rattle.desk_register.specs.View.{View}
 
 -- `back` goes back to before all changes that are noted, and there is no device that could fail or lie.
@@ -9,8 +10,8 @@ view_of_rows r = record {
   content = content_in (listed r.lists);
   mark = content_in (undone r.changes.items (listed r.lists));
   stage = r.stage;
-  failures = 0;
   room = r.limit;
   is_honest = Unit {0};
   is_sure = Unit {0};
+  device = no_device;
 }

@@ -8,9 +8,8 @@ use Rattle.serde_json.specs.Data.{Data}
 use Rattle.desk_rules.specs.declared.history.entry.Entry.{Entry}
 use Rattle.desk_rules.specs.History.{entry_at}
 use Rattle.desk_rules.specs.Content.{Content, history_of}
-use Rattle.desk_register.specs.View.{HasRead, IsLater, View}
+use Rattle.desk_register.specs.View.{HasRead, IsLater, View, IsRead}
 use Rattle.desk_register.specs.declared.fault.WalkFault.{WalkFault}
-use Rattle.desk_register.specs.Ends.{HaveRead}
 use Rattle.desk_register.proofs.ReadLemmas.{held_so}
 use Rattle.desk_register.proofs.ReadingLemmas.{read_on}
 use Rattle.desk_book.specs.RowByRow.{WritesText, WritesWhole}
@@ -60,7 +59,7 @@ module _ {Row Item X : Type 0} (data_of : Row → Data) (Given : Content → X �
   Turn turns is_later result before now content = (x : X) → Given content x → WritesRows data_of (rows_if (rows_by content x) (slice_get (items content) turns)) is_later result before now
 
   module _ (v0 v : View) (turns : ℕ) (was_later is_later : Bool) (before between : Option (List ℕ)) (s : Looping v0 v turns was_later is_later before between) where
-    pub looping_goes_on : (v1 : View) (now_later : Bool) (now : Option (List ℕ)) → HaveRead {X = Unit {0}} (Ok tt) v v1
+    pub looping_goes_on : (v1 : View) (now_later : Bool) (now : Option (List ℕ)) → IsRead {X = Unit {0}} (Ok tt) v v1
         → (IsJson → v1.is_honest → v.is_sure → Turn turns is_later (Ok now_later) between now v.content) → Looping v0 v1 (turns + 1) was_later now_later before now
     looping_goes_on v1 now_later now read writes = record {
       read = read_on v0 v s.read tt v1 read;
@@ -132,7 +131,7 @@ module _ {Row X : Type 0} (data_of : Row → Data) (Given : Content → X → Ty
         let known : P (history_of v0.content) = ap (λ (o : Option Entry). is_some o) (numbered (history_of v0.content) index) ∙ within_list (history_of v0.content) index (omega arith) in
         subst P (sym (ap history_of (s.loop.read.same honest sure0))) known
 
-    pub numbering_goes_on : (v1 : View) (now_later : Bool) (now : Option (List ℕ)) → HaveRead {X = Unit {0}} (Ok tt) v v1
+    pub numbering_goes_on : (v1 : View) (now_later : Bool) (now : Option (List ℕ)) → IsRead {X = Unit {0}} (Ok tt) v v1
         → (IsJson → v1.is_honest → v.is_sure → Numbered (index + 1) is_later (Ok now_later) between now v.content) → Numbering v0 v1 count (index + 1) now_later before now
     numbering_goes_on v1 now_later now read writes = record {
       entries = λ honest sure. s.entries (read.later.honest honest) sure;

@@ -3,8 +3,8 @@ ghost use Rattle.std.specs.Prelude.{◌≡◌, ◌≢◌, ℕ, List, true, false
 ghost use Rattle.desk_msg.specs.declared.writing.statement_row.StatementRow.{StatementRow};
 ghost use Rattle.desk_rules.specs.Content.{history_of};
 ghost use Rattle.desk_rules.specs.History.{entry_at};
-ghost use Rattle.desk_register.specs.View.{IfTrusted};
-ghost use Rattle.desk_register.specs.Ends.{HaveRead, at_register};
+ghost use Rattle.desk_register.specs.View.{IfTrusted, IsRead};
+ghost use Rattle.desk_register.specs.Ends.{at_register};
 ghost use Rattle.desk_holdings.specs.Holdings.{AreHoldings, HoldsRegistered};
 ghost use Rattle.desk_engine.specs.Ready.{IsReady};
 ghost use Rattle.desk_book.specs.RowByRow.{WritesText};
@@ -39,7 +39,7 @@ pub fn write_accounts<R: Register, W: Sink>(
 ) -> Result<(), WalkFault>
     requires ready { IsReady false (R.view register.old) }
     ensures written { format ≡ Format.Json → IfTrusted (R.view register.old) (R.view register.new) (WritesText (IsAccountsText (R.view register.old).content) result (W.contents writer.old) (W.contents writer.new)) }
-    ensures read { HaveRead (at_register result) (R.view register.old) (R.view register.new) }
+    ensures read { IsRead (at_register result) (R.view register.old) (R.view register.new) }
     ensures in_memory { R.in_memory ≡ true → result ≢ Err WalkFault.Memory }
     ensures unwritten { result ≡ Err (WalkFault.Sink SinkFault.Write) → W.may_fail ≡ true }
 {
@@ -66,7 +66,7 @@ fn write_entry<R: Register, W: Sink>(
     requires registered { IfTrusted (R.view register.old) (R.view register.old) (HoldRegistered (R.view register.old).content) }
     ensures written { format ≡ Format.Json → IfTrusted (R.view register.old) (R.view register.new) ((held : List ℕ → List StatementRow) → AreHeld (R.view register.old).content held
         → WritesRows account_data (rows_at (account_rows held) (history_of (R.view register.old).content) number) is_later result (W.contents writer.old) (W.contents writer.new)) }
-    ensures read { HaveRead (at_register result) (R.view register.old) (R.view register.new) }
+    ensures read { IsRead (at_register result) (R.view register.old) (R.view register.new) }
     ensures in_memory { R.in_memory ≡ true → result ≢ Err WalkFault.Memory }
     ensures unwritten { result ≡ Err (WalkFault.Sink SinkFault.Write) → W.may_fail ≡ true }
 {
@@ -93,7 +93,7 @@ fn write_account<R: Register, W: Sink>(
     requires registered { IfTrusted (R.view register.old) (R.view register.old) (HoldsRegistered (R.view register.old).content account) }
     ensures written { format ≡ Format.Json → IfTrusted (R.view register.old) (R.view register.new) ((held : List StatementRow) → AreHoldings (R.view register.old).content account held
         → WritesText (IsRows account_data (rows_of owner account held) is_later) result (W.contents writer.old) (W.contents writer.new)) }
-    ensures read { HaveRead (at_register result) (R.view register.old) (R.view register.new) }
+    ensures read { IsRead (at_register result) (R.view register.old) (R.view register.new) }
     ensures in_memory { R.in_memory ≡ true → result ≢ Err WalkFault.Memory }
     ensures unwritten { result ≡ Err (WalkFault.Sink SinkFault.Write) → W.may_fail ≡ true }
 {

@@ -2,8 +2,8 @@
 ghost use Rattle.std.specs.Prelude.{◌≡◌, ◌≢◌, ◌∷◌, [], true, false, is_some, Err};
 ghost use Rattle.desk_rules.specs.Content.{history_of};
 ghost use Rattle.desk_rules.specs.History.{entry_at};
-ghost use Rattle.desk_register.specs.View.{IfTrusted};
-ghost use Rattle.desk_register.specs.Ends.{HaveRead, at_register};
+ghost use Rattle.desk_register.specs.View.{IfTrusted, IsRead};
+ghost use Rattle.desk_register.specs.Ends.{at_register};
 ghost use Rattle.desk_engine.specs.Ready.{IsReady};
 ghost use Rattle.desk_book.specs.RowByRow.{WritesText};
 ghost use Rattle.report_rows.specs.RowData.{cash_data};
@@ -34,7 +34,7 @@ pub fn write_cash<R: Register, W: Sink>(
 ) -> Result<(), WalkFault>
     requires ready { IsReady false (R.view register.old) }
     ensures written { format ≡ Format.Json → IfTrusted (R.view register.old) (R.view register.new) (WritesText (IsCashText (R.view register.old).content) result (W.contents writer.old) (W.contents writer.new)) }
-    ensures read { HaveRead (at_register result) (R.view register.old) (R.view register.new) }
+    ensures read { IsRead (at_register result) (R.view register.old) (R.view register.new) }
     ensures in_memory { R.in_memory ≡ true → result ≢ Err WalkFault.Memory }
     ensures unwritten { result ≡ Err (WalkFault.Sink SinkFault.Write) → W.may_fail ≡ true }
 {
@@ -60,7 +60,7 @@ fn write_entry<R: Register, W: Sink>(
     requires known { IfTrusted (R.view register.old) (R.view register.old) (is_some (entry_at (history_of (R.view register.old).content) number) ≡ true) }
     ensures written { format ≡ Format.Json → IfTrusted (R.view register.old) (R.view register.new)
         (WritesRows cash_data (rows_at (cash_rows (R.view register.old).content) (history_of (R.view register.old).content) number) is_later result (W.contents writer.old) (W.contents writer.new)) }
-    ensures read { HaveRead (at_register result) (R.view register.old) (R.view register.new) }
+    ensures read { IsRead (at_register result) (R.view register.old) (R.view register.new) }
     ensures in_memory { R.in_memory ≡ true → result ≢ Err WalkFault.Memory }
     ensures unwritten { result ≡ Err (WalkFault.Sink SinkFault.Write) → W.may_fail ≡ true }
 {
@@ -84,7 +84,7 @@ fn write_balances<R: Register, W: Sink>(
     requires stage { (R.view register.old).stage ≡ Stage.Idle }
     ensures written { format ≡ Format.Json → IfTrusted (R.view register.old) (R.view register.new)
         (WritesRows cash_data (balance_rows (R.view register.old).content bic currencies) is_later result (W.contents writer.old) (W.contents writer.new)) }
-    ensures read { HaveRead (at_register result) (R.view register.old) (R.view register.new) }
+    ensures read { IsRead (at_register result) (R.view register.old) (R.view register.new) }
     ensures in_memory { R.in_memory ≡ true → result ≢ Err WalkFault.Memory }
     ensures unwritten { result ≡ Err (WalkFault.Sink SinkFault.Write) → W.may_fail ≡ true }
 {
@@ -116,7 +116,7 @@ fn write_balance<R: Register, W: Sink>(
     requires stage { (R.view register.old).stage ≡ Stage.Idle }
     ensures written { format ≡ Format.Json → IfTrusted (R.view register.old) (R.view register.new)
         (WritesRows cash_data (balance_rows (R.view register.old).content bic (ccy ∷ [])) is_later result (W.contents writer.old) (W.contents writer.new)) }
-    ensures read { HaveRead (at_register result) (R.view register.old) (R.view register.new) }
+    ensures read { IsRead (at_register result) (R.view register.old) (R.view register.new) }
     ensures in_memory { R.in_memory ≡ true → result ≢ Err WalkFault.Memory }
     ensures unwritten { result ≡ Err (WalkFault.Sink SinkFault.Write) → W.may_fail ≡ true }
 {

@@ -2,8 +2,7 @@
 ghost use Rattle.std.specs.Prelude.{◌≡◌, ◌≢◌, true, is_some, Some, Err, IfOk};
 ghost use Rattle.desk_rules.specs.Content.{history_of};
 ghost use Rattle.desk_rules.specs.History.{entry_at};
-ghost use Rattle.desk_register.specs.View.{IfTrusted};
-ghost use Rattle.desk_register.specs.Ends.{HaveRead};
+ghost use Rattle.desk_register.specs.View.{IfTrusted, IsRead};
 
 use desk_register::{Fault, Register, Stage};
 use desk_rules::Entry;
@@ -15,7 +14,7 @@ pub fn entry_of<R: Register>(alloc: Global, register: &mut R, number: u64) -> Re
     requires stage { (R.view register.old).stage ≡ Stage.Idle }
     requires known { IfTrusted (R.view register.old) (R.view register.old) (is_some (entry_at (history_of (R.view register.old).content) number) ≡ true) }
     ensures entry { IfTrusted (R.view register.old) (R.view register.new) (IfOk result (λ entry. entry_at (history_of (R.view register.old).content) number ≡ Some entry)) }
-    ensures read { HaveRead result (R.view register.old) (R.view register.new) }
+    ensures read { IsRead result (R.view register.old) (R.view register.new) }
     ensures in_memory { R.in_memory ≡ true → result ≢ Err Fault.Memory }
 {
     let Some(entry) = register.entry(alloc, number)? else {

@@ -1,8 +1,8 @@
 //! The walk over what an account holds.
 ghost use Rattle.std.specs.Prelude.{◌≡◌, ◌≢◌, true, false, Err, IfOk, List, map};
 ghost use Rattle.desk_msg.specs.declared.writing.statement_row.StatementRow.{StatementRow};
-ghost use Rattle.desk_register.specs.View.{IfTrusted};
-ghost use Rattle.desk_register.specs.Ends.{HaveRead, at_register};
+ghost use Rattle.desk_register.specs.View.{IfTrusted, IsRead};
+ghost use Rattle.desk_register.specs.Ends.{at_register};
 ghost use Rattle.desk_holdings.specs.Holdings.{AreHoldings, HoldsRegistered};
 ghost use Rattle.desk_holdings.specs.Walking.{IsNextRow};
 ghost use Rattle.report_rows.specs.RowData.{account_data};
@@ -28,7 +28,7 @@ fn next_holding<R: Register>(
     requires stage { (R.view register.old).stage ≡ Stage.Idle }
     requires registered { IfTrusted (R.view register.old) (R.view register.old) (HoldsRegistered (R.view register.old).content account) }
     ensures next { IfTrusted (R.view register.old) (R.view register.new) (IfOk result (λ row. IsNextRow (R.view register.old).content account last row)) }
-    ensures read { HaveRead result (R.view register.old) (R.view register.new) }
+    ensures read { IsRead result (R.view register.old) (R.view register.new) }
     ensures in_memory { R.in_memory ≡ true → result ≢ Err Fault.Memory }
 {
     let Some(holding) = register.holding_after(alloc, account, last)? else {
@@ -66,7 +66,7 @@ pub fn write_holdings<R: Register, W: Sink>(
     requires registered { IfTrusted (R.view register.old) (R.view register.old) (HoldsRegistered (R.view register.old).content account) }
     ensures written { format ≡ Format.Json → IfTrusted (R.view register.old) (R.view register.new) ((held : List StatementRow) → AreHoldings (R.view register.old).content account held
         → WritesHoldings owner account held is_later result (W.contents writer.old) (W.contents writer.new)) }
-    ensures read { HaveRead (at_register result) (R.view register.old) (R.view register.new) }
+    ensures read { IsRead (at_register result) (R.view register.old) (R.view register.new) }
     ensures in_memory { R.in_memory ≡ true → result ≢ Err WalkFault.Memory }
     ensures unwritten { result ≡ Err (WalkFault.Sink SinkFault.Write) → W.may_fail ≡ true }
 {

@@ -7,10 +7,9 @@ use Rattle.desk_rules.specs.declared.history.pair.Place.{Place}
 use Rattle.desk_rules.specs.declared.history.standing.State.TheVariants.{Matched}
 use Rattle.desk_rules.specs.Balances.{delivering, receiving}
 use Rattle.desk_rules.specs.Content.{Content}
-use Rattle.desk_register.specs.View.{View}
-use Rattle.desk_register.specs.Ends.{HaveRead}
+use Rattle.desk_register.specs.View.{View, IsRead}
 use Rattle.desk_register.proofs.ReadLemmas.{held_so}
-use Rattle.desk_register.proofs.ReadingLemmas.{have_read}
+use Rattle.desk_register.proofs.ReadLemmas.{read_one}
 use Rattle.report_rows.specs.declared.pending.PendingPair.{PendingPair}
 use Rattle.report_pending.specs.declared.pair.Leg.{Leg}
 use Rattle.report_pending.specs.declared.pair.WaitingPair.{WaitingPair}
@@ -41,24 +40,24 @@ pair_of_legs content place w mate reason later earlier pair l has state e why te
 
 -- as the second was read after the first
 pub pair_read : (v0 v1 v2 : View) (place : Place) (mate : ℕ) (reason : Reason) (later earlier : Leg) (pair : WaitingPair) → (v0.is_honest → v0.is_sure → IsWaitingPair v0.content place)
-    → HaveRead {X = Leg} (Ok later) v0 v1 → (v1.is_honest → v0.is_sure → IsLeg v0.content place.number later) → later.standing.mate ≡ Some mate → later.standing.state ≡ Matched reason
-    → HaveRead {X = Leg} (Ok earlier) v1 v2 → (v2.is_honest → v1.is_sure → IsLeg v1.content mate earlier) → pair.reason ≡ reason → pair.later ≡ later.instructed
+    → IsRead {X = Leg} (Ok later) v0 v1 → (v1.is_honest → v0.is_sure → IsLeg v0.content place.number later) → later.standing.mate ≡ Some mate → later.standing.state ≡ Matched reason
+    → IsRead {X = Leg} (Ok earlier) v1 v2 → (v2.is_honest → v1.is_sure → IsLeg v1.content mate earlier) → pair.reason ≡ reason → pair.later ≡ later.instructed
     → pair.deliverer ≡ delivering (is_delivery earlier.instructed.instruction.mt) earlier later → pair.receiver ≡ receiving (is_delivery earlier.instructed.instruction.mt) earlier later
     → v2.is_honest → v0.is_sure → IsPair v0.content place pair
 pair_read v0 v1 v2 place mate reason later earlier pair known first is_later has state second is_earlier why terms deliverer receiver honest sure =
     let honest1 = second.later.honest honest in
     let honest0 = first.later.honest honest1 in
-    let read = have_read later v0 v1 first in
+    let read = read_one later v0 v1 first in
     let e = held_so v0 v1 read (λ c. IsLeg c mate earlier) honest1 sure (is_earlier honest (read.ok.sure honest1 sure)) in
     pair_of_legs v0.content place (known honest0 sure) mate reason later earlier pair (is_later honest1 sure) has state e why terms deliverer receiver
 
 -- and what is lacking after the pair
-pub row_of_pair : (v0 v1 v2 : View) (place : Place) (pair : WaitingPair) (lacking : Option ℕ) (row : PendingPair) → HaveRead {X = WaitingPair} (Ok pair) v0 v1
-    → (v1.is_honest → v0.is_sure → IsPair v0.content place pair) → HaveRead {X = Option ℕ} (Ok lacking) v1 v2
+pub row_of_pair : (v0 v1 v2 : View) (place : Place) (pair : WaitingPair) (lacking : Option ℕ) (row : PendingPair) → IsRead {X = WaitingPair} (Ok pair) v0 v1
+    → (v1.is_honest → v0.is_sure → IsPair v0.content place pair) → IsRead {X = Option ℕ} (Ok lacking) v1 v2
     → (v2.is_honest → v1.is_sure → lacking ≡ lacking_of v1.content pair.reason pair.deliverer.instructed pair.receiver.instructed) → row ≡ row_with pair lacking
     → v2.is_honest → v0.is_sure → IsPendingRow v0.content place row
 row_of_pair v0 v1 v2 place pair lacking row first is_pair second is_lacking is honest sure =
     let honest1 = second.later.honest honest in
-    let read = have_read pair v0 v1 first in
+    let read = read_one pair v0 v1 first in
     let l = held_so v0 v1 read (λ c. lacking ≡ lacking_of c pair.reason pair.deliverer.instructed pair.receiver.instructed) honest1 sure (is_lacking honest (read.ok.sure honest1 sure)) in
     subst (λ z. IsPendingRow v0.content place z) (sym is) (row_read v0.content place pair (is_pair honest1 sure) lacking l)

@@ -13,7 +13,7 @@ use Rattle.desk_register.specs.Looked.{IsMatchedPair}
 use Rattle.desk_register.specs.View.{HasRead, IsLater, IsRead, View}
 use Rattle.desk_register.specs.declared.fault.WalkFault.{WalkFault}
 use Rattle.desk_register.specs.declared.fault.WalkFault.TheVariants as walks
-use Rattle.desk_register.specs.Ends.{HaveRead, broken_off}
+use Rattle.desk_register.specs.Ends.{broken_off}
 use Rattle.desk_register.proofs.ReadLemmas.{held_so, kept_so, read_more}
 use Rattle.desk_register.proofs.ReadingLemmas.{read_on}
 use Rattle.desk_engine.specs.Ready.{IsReady}
@@ -153,7 +153,7 @@ module _ (v0 v : View) (format : Format) (count : ℕ) (last : Option Place) (tu
         let sure0 = read1.later.sure honest sure in
         kept_so v0 v1 read1 (λ c. IsWaitingPair c next) honest sure0 ((tells (read1.later.honest honest)).opposite next (is_next honest sure0).0)
 
-    pub listing_goes_on : (v2 : View) (now : Option (List ℕ)) → HaveRead {X = Unit {0}} (Ok tt) v1 v2 → (format ≡ Json → v2.is_honest → v1.is_sure → WritesRowOf v1.content next (is_some last) between now)
+    pub listing_goes_on : (v2 : View) (now : Option (List ℕ)) → IsRead {X = Unit {0}} (Ok tt) v1 v2 → (format ≡ Json → v2.is_honest → v1.is_sure → WritesRowOf v1.content next (is_some last) between now)
         → Listing v0 v2 format count (Some next) (turns + 1) before now
     listing_goes_on v2 now second writes =
         let read1 = read_more (Some next) v0 v v1 s.read first in

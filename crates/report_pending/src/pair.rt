@@ -4,8 +4,7 @@ ghost use Rattle.desk_msg.specs.MessageType.{is_delivery};
 ghost use Rattle.desk_rules.specs.Balances.{delivering, receiving};
 ghost use Rattle.desk_rules.specs.Content.{history_of};
 ghost use Rattle.desk_rules.specs.History.{instructed, instruction_at};
-ghost use Rattle.desk_register.specs.View.{IfTrusted};
-ghost use Rattle.desk_register.specs.Ends.{HaveRead};
+ghost use Rattle.desk_register.specs.View.{IfTrusted, IsRead};
 ghost use Rattle.report_pending.specs.Reading.{IsLeg, IsPair, IsWaitingPair};
 
 use desk_msg::Reason;
@@ -50,7 +49,7 @@ fn instruction<R: Register>(
     requires stage { (R.view register.old).stage ≡ Stage.Idle }
     requires known { IfTrusted (R.view register.old) (R.view register.old) (is_some (instruction_at (history_of (R.view register.old).content) number) ≡ true) }
     ensures value { IfTrusted (R.view register.old) (R.view register.new) (IfOk result (λ found. instruction_at (history_of (R.view register.old).content) number ≡ Some found)) }
-    ensures read { HaveRead result (R.view register.old) (R.view register.new) }
+    ensures read { IsRead result (R.view register.old) (R.view register.new) }
     ensures in_memory { R.in_memory ≡ true → result ≢ Err Fault.Memory }
 {
     let found = register.entry(alloc, number)?;
@@ -65,7 +64,7 @@ fn read_leg<R: Register>(alloc: Global, register: &mut R, number: u64) -> Result
     requires stage { (R.view register.old).stage ≡ Stage.Idle }
     requires known { IfTrusted (R.view register.old) (R.view register.old) (is_some (instruction_at (history_of (R.view register.old).content) number) ≡ true) }
     ensures value { IfTrusted (R.view register.old) (R.view register.new) (IfOk result (λ leg. IsLeg (R.view register.old).content number leg)) }
-    ensures read { HaveRead result (R.view register.old) (R.view register.new) }
+    ensures read { IsRead result (R.view register.old) (R.view register.new) }
     ensures in_memory { R.in_memory ≡ true → result ≢ Err Fault.Memory }
 {
     let instructed = instruction(alloc, register, number)?;
@@ -111,7 +110,7 @@ pub fn waiting_pair<R: Register>(
     requires stage { (R.view register.old).stage ≡ Stage.Idle }
     requires known { IfTrusted (R.view register.old) (R.view register.old) (IsWaitingPair (R.view register.old).content place) }
     ensures value { IfTrusted (R.view register.old) (R.view register.new) (IfOk result (λ pair. IsPair (R.view register.old).content place pair)) }
-    ensures read { HaveRead result (R.view register.old) (R.view register.new) }
+    ensures read { IsRead result (R.view register.old) (R.view register.new) }
     ensures in_memory { R.in_memory ≡ true → result ≢ Err Fault.Memory }
 {
     let later = read_leg(alloc, register, place.number)?;

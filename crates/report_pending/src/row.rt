@@ -1,7 +1,6 @@
 //! The row of a pair that waits.
 ghost use Rattle.std.specs.Prelude.{◌≡◌, ◌≢◌, true, Err, IfOk};
-ghost use Rattle.desk_register.specs.View.{IfTrusted};
-ghost use Rattle.desk_register.specs.Ends.{HaveRead};
+ghost use Rattle.desk_register.specs.View.{IfTrusted, IsRead};
 ghost use Rattle.report_pending.specs.Pending.{IsPendingRow, cash_lacking, lacking_of, securities_lacking};
 ghost use Rattle.report_pending.specs.Reading.{IsWaitingPair, row_with, side_with};
 
@@ -20,7 +19,7 @@ fn securities_lacking<R: Register>(
 ) -> Result<u64, Fault>
     requires stage { (R.view register.old).stage ≡ Stage.Idle }
     ensures value { IfTrusted (R.view register.old) (R.view register.new) (IfOk result (λ lacking. lacking ≡ securities_lacking (R.view register.old).content delivery.now)) }
-    ensures read { HaveRead result (R.view register.old) (R.view register.new) }
+    ensures read { IsRead result (R.view register.old) (R.view register.new) }
     ensures in_memory { R.in_memory ≡ true → result ≢ Err Fault.Memory }
 {
     let instruction = &delivery.instruction;
@@ -36,7 +35,7 @@ fn cash_lacking<R: Register>(
 ) -> Result<u64, Fault>
     requires stage { (R.view register.old).stage ≡ Stage.Idle }
     ensures value { IfTrusted (R.view register.old) (R.view register.new) (IfOk result (λ lacking. lacking ≡ cash_lacking (R.view register.old).content receipt.now.sender receipt.now.instruction.cash)) }
-    ensures read { HaveRead result (R.view register.old) (R.view register.new) }
+    ensures read { IsRead result (R.view register.old) (R.view register.new) }
     ensures in_memory { R.in_memory ≡ true → result ≢ Err Fault.Memory }
 {
     let Some(cash) = receipt.instruction.cash else {
@@ -56,7 +55,7 @@ fn lacking_now<R: Register>(
 ) -> Result<Option<u64>, Fault>
     requires stage { (R.view register.old).stage ≡ Stage.Idle }
     ensures value { IfTrusted (R.view register.old) (R.view register.new) (IfOk result (λ lacking. lacking ≡ lacking_of (R.view register.old).content reason delivery.now receipt.now)) }
-    ensures read { HaveRead result (R.view register.old) (R.view register.new) }
+    ensures read { IsRead result (R.view register.old) (R.view register.new) }
     ensures in_memory { R.in_memory ≡ true → result ≢ Err Fault.Memory }
 {
     match reason {
@@ -106,7 +105,7 @@ pub fn pending_pair<R: Register>(
     requires stage { (R.view register.old).stage ≡ Stage.Idle }
     requires known { IfTrusted (R.view register.old) (R.view register.old) (IsWaitingPair (R.view register.old).content place) }
     ensures value { IfTrusted (R.view register.old) (R.view register.new) (IfOk result (λ row. IsPendingRow (R.view register.old).content place row)) }
-    ensures read { HaveRead result (R.view register.old) (R.view register.new) }
+    ensures read { IsRead result (R.view register.old) (R.view register.new) }
     ensures in_memory { R.in_memory ≡ true → result ≢ Err Fault.Memory }
 {
     let pair = waiting_pair(alloc, register, place)?;

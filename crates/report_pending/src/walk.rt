@@ -1,7 +1,7 @@
 //! The walk over the pairs that wait.
 ghost use Rattle.std.specs.Prelude.{◌≡◌, ◌≢◌, true, false, codes, Err, IfOk, IsOk};
 ghost use Rattle.desk_register.specs.View.{IfTrusted, IsRead};
-ghost use Rattle.desk_register.specs.Ends.{HaveRead, at_register};
+ghost use Rattle.desk_register.specs.Ends.{at_register};
 ghost use Rattle.desk_engine.specs.Ready.{IsReady};
 ghost use Rattle.desk_book.specs.RowByRow.{WritesText};
 ghost use Rattle.report_pending.specs.Pending.{IsPendingText};
@@ -50,7 +50,7 @@ fn write_pair<R: Register, W: Sink>(
     requires stage { (R.view register.old).stage ≡ Stage.Idle }
     requires known { IfTrusted (R.view register.old) (R.view register.old) (IsWaitingPair (R.view register.old).content place) }
     ensures written { format ≡ Format.Json → IfTrusted (R.view register.old) (R.view register.new) (WritesPair (R.view register.old).content place is_later result (W.contents writer.old) (W.contents writer.new)) }
-    ensures read { HaveRead (at_register result) (R.view register.old) (R.view register.new) }
+    ensures read { IsRead (at_register result) (R.view register.old) (R.view register.new) }
     ensures in_memory { R.in_memory ≡ true → result ≢ Err WalkFault.Memory }
     ensures unwritten { result ≡ Err (WalkFault.Sink SinkFault.Write) → W.may_fail ≡ true }
 {
@@ -73,7 +73,7 @@ pub fn write_pending<R: Register, W: Sink>(
 ) -> Result<(), WalkFault>
     requires ready { IsReady false (R.view register.old) }
     ensures written { format ≡ Format.Json → IfTrusted (R.view register.old) (R.view register.new) (WritesText (IsPendingText (R.view register.old).content) result (W.contents writer.old) (W.contents writer.new)) }
-    ensures read { HaveRead (at_register result) (R.view register.old) (R.view register.new) }
+    ensures read { IsRead (at_register result) (R.view register.old) (R.view register.new) }
     ensures in_memory { R.in_memory ≡ true → result ≢ Err WalkFault.Memory }
     ensures unwritten { result ≡ Err (WalkFault.Sink SinkFault.Write) → W.may_fail ≡ true }
 {

@@ -10,9 +10,8 @@ use Rattle.std.proofs.lemmas.List.Folds.{find-append}
 use Rattle.desk_rules.specs.Content.{Content}
 use Rattle.desk_rules.specs.declared.history.entry.Instructed.{Instructed}
 use Rattle.desk_rules.proofs.SentFronts.{range-append}
-use Rattle.desk_register.specs.View.{HasRead, View}
+use Rattle.desk_register.specs.View.{HasRead, View, IsRead}
 use Rattle.desk_register.proofs.CaseLemmas.{by_bool}
-use Rattle.desk_register.specs.Ends.{HaveRead}
 use Rattle.desk_register.proofs.ReadLemmas.{held_so, read_none}
 use Rattle.desk_register.proofs.ReadingLemmas.{read_on}
 use Rattle.report_unmatched.specs.declared.near.NearKey.{NearKey}
@@ -62,7 +61,7 @@ pub record Noting (v0 v : View) (upto : ℕ) (numbers : BTreeMap NearKey ℕ) : 
 pub noting_begins : (v0 : View) (numbers : BTreeMap NearKey ℕ) → IsEmpty numbers → Noting v0 v0 0 numbers
 noting_begins v0 numbers empty = record { read = read_none v0; first = λ honest sure. first_none v0.content numbers empty }
 
-pub noting_goes_on : (v0 v v1 : View) (upto : ℕ) (old new : BTreeMap NearKey ℕ) → Noting v0 v upto old → HaveRead {X = Unit {0}} (Ok tt) v v1
+pub noting_goes_on : (v0 v v1 : View) (upto : ℕ) (old new : BTreeMap NearKey ℕ) → Noting v0 v upto old → IsRead {X = Unit {0}} (Ok tt) v v1
     → (v1.is_honest → v.is_sure → IsNoted v.content (upto + 1) old new) → Noting v0 v1 (upto + 1) new
 noting_goes_on v0 v v1 upto old new n read noted = record {
   read = read_on v0 v n.read tt v1 read;

@@ -9,10 +9,10 @@ use Rattle.desk_rules.specs.Content.{Content}
 use Rattle.desk_rules.proofs.SentFronts.{range-append}
 use Rattle.desk_register.specs.declared.register.Fault.{Fault}
 use Rattle.desk_register.specs.declared.register.Fault.TheVariants as faults
-use Rattle.desk_register.specs.View.{View, IsLater}
+use Rattle.desk_register.specs.View.{View, IsLater, IsRead}
 use Rattle.desk_register.specs.declared.fault.WalkFault.{WalkFault}
 use Rattle.desk_register.specs.declared.fault.WalkFault.TheVariants as walks
-use Rattle.desk_register.specs.Ends.{HaveRead, broken_off}
+use Rattle.desk_register.specs.Ends.{broken_off}
 use Rattle.desk_register.proofs.ReadLemmas.{held_so, read_none}
 use Rattle.desk_register.proofs.ReadingLemmas.{read_on}
 use Rattle.desk_book.specs.RowByRow.{WritesSome, WritesText, WritesWhole}
@@ -116,7 +116,7 @@ module _ (IsJson : Type 0) (v0 : View) (count : ℕ) where
   writing_begins before entries = record { read = read_none v0; entries = entries; rows_of = λ json honest sure. none_written unmatched_data before }
 
   module _ (v : View) (n : ℕ) (was_later : Bool) (before between : Option (List ℕ)) (w : Writing IsJson v0 v count n was_later before between) where
-    pub writing_goes_on : (v1 : View) (is_later : Bool) (now : Option (List ℕ)) → HaveRead {X = Unit {0}} (Ok tt) v v1
+    pub writing_goes_on : (v1 : View) (is_later : Bool) (now : Option (List ℕ)) → IsRead {X = Unit {0}} (Ok tt) v v1
         → (IsJson → v1.is_honest → v.is_sure → WritesIf (Ok is_later) (unmatched_row v.content (n + 1)) was_later between now) → Writing IsJson v0 v1 count (n + 1) is_later before now
     writing_goes_on v1 is_later now read writes = record {
       read = read_on v0 v w.read tt v1 read;

@@ -4,8 +4,8 @@ ghost use Rattle.std.specs.Bool.{then_some};
 ghost use Rattle.std.specs.BTreeMap.{get, IsEmpty};
 ghost use Rattle.std.specs.Option.{option_or};
 ghost use Rattle.std.specs.Ordering.{is_eq};
-ghost use Rattle.desk_register.specs.View.{IfTrusted};
-ghost use Rattle.desk_register.specs.Ends.{HaveRead, at_register};
+ghost use Rattle.desk_register.specs.View.{IfTrusted, IsRead};
+ghost use Rattle.desk_register.specs.Ends.{at_register};
 ghost use Rattle.report_unmatched.specs.FirstNumbers.{AreFirst, IsNoted};
 
 use crate::near::{NearKey, key_of};
@@ -43,7 +43,7 @@ fn note_number<R: Register>(
 ) -> Result<(), WalkFault>
     requires stage { (R.view register.old).stage ≡ Stage.Idle }
     ensures noted { IfTrusted (R.view register.old) (R.view register.new) (OnOk result (IsNoted (R.view register.old).content number numbers.old numbers.new)) }
-    ensures read { HaveRead (at_register result) (R.view register.old) (R.view register.new) }
+    ensures read { IsRead (at_register result) (R.view register.old) (R.view register.new) }
     ensures in_memory { R.in_memory ≡ true → result ≢ Err WalkFault.Memory }
     ensures unwritten { result ≢ Err (WalkFault.Sink SinkFault.Write) }
 {
@@ -68,7 +68,7 @@ pub fn note_first<R: Register>(
     requires stage { (R.view register.old).stage ≡ Stage.Idle }
     requires empty { IsEmpty numbers.old }
     ensures first { IfTrusted (R.view register.old) (R.view register.new) (OnOk result (AreFirst numbers.new (R.view register.old).content count)) }
-    ensures read { HaveRead (at_register result) (R.view register.old) (R.view register.new) }
+    ensures read { IsRead (at_register result) (R.view register.old) (R.view register.new) }
     ensures in_memory { R.in_memory ≡ true → result ≢ Err WalkFault.Memory }
     ensures unwritten { result ≢ Err (WalkFault.Sink SinkFault.Write) }
 {

@@ -1,7 +1,7 @@
 //! The row of an unmatched instruction.
 ghost use Rattle.std.specs.Prelude.{◌≡◌, ◌≢◌, true, Err, IfOk, length};
-ghost use Rattle.desk_register.specs.View.{IfTrusted};
-ghost use Rattle.desk_register.specs.Ends.{HaveRead, at_register};
+ghost use Rattle.desk_register.specs.View.{IfTrusted, IsRead};
+ghost use Rattle.desk_register.specs.Ends.{at_register};
 ghost use Rattle.report_unmatched.specs.FirstNumbers.{AreFirst};
 ghost use Rattle.report_unmatched.specs.Unmatched.{nearest_of, unmatched_row};
 
@@ -25,7 +25,7 @@ fn nearest<R: Register>(
     requires stage { (R.view register.old).stage ≡ Stage.Idle }
     requires first { IfTrusted (R.view register.old) (R.view register.old) (AreFirst numbers.now (R.view register.old).content (length (R.view register.old).content.register)) }
     ensures nearest { IfTrusted (R.view register.old) (R.view register.new) (IfOk result (λ found. found ≡ nearest_of (R.view register.old).content one.now)) }
-    ensures read { HaveRead result (R.view register.old) (R.view register.new) }
+    ensures read { IsRead result (R.view register.old) (R.view register.new) }
     ensures in_memory { R.in_memory ≡ true → result ≢ Err Fault.Memory }
 {
     let Some(number) = number_at(numbers, &near_key(one)) else {
@@ -47,7 +47,7 @@ pub fn row<R: Register>(
     requires stage { (R.view register.old).stage ≡ Stage.Idle }
     requires first { IfTrusted (R.view register.old) (R.view register.old) (AreFirst numbers.now (R.view register.old).content (length (R.view register.old).content.register)) }
     ensures row { IfTrusted (R.view register.old) (R.view register.new) (IfOk result (λ row. row ≡ unmatched_row (R.view register.old).content number)) }
-    ensures read { HaveRead result (R.view register.old) (R.view register.new) }
+    ensures read { IsRead result (R.view register.old) (R.view register.new) }
     ensures in_memory { R.in_memory ≡ true → result ≢ Err Fault.Memory }
 {
     let Some(instructed) = unmatched(alloc, register, number)? else {

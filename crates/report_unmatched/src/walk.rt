@@ -1,8 +1,8 @@
 //! The walk over the unmatched instructions, row by row.
 ghost use Rattle.std.specs.Prelude.{◌≡◌, ◌≢◌, true, false, Err, length};
 ghost use Rattle.std.specs.BTreeMap.{IsEmpty};
-ghost use Rattle.desk_register.specs.View.{IfTrusted};
-ghost use Rattle.desk_register.specs.Ends.{HaveRead, at_register};
+ghost use Rattle.desk_register.specs.View.{IfTrusted, IsRead};
+ghost use Rattle.desk_register.specs.Ends.{at_register};
 ghost use Rattle.desk_engine.specs.Ready.{IsReady};
 ghost use Rattle.desk_book.specs.RowByRow.{WritesText};
 ghost use Rattle.report_unmatched.specs.FirstNumbers.{AreFirst};
@@ -32,7 +32,7 @@ fn write_number<R: Register, W: Sink>(
     requires stage { (R.view register.old).stage ≡ Stage.Idle }
     requires first { IfTrusted (R.view register.old) (R.view register.old) (AreFirst numbers.now (R.view register.old).content (length (R.view register.old).content.register)) }
     ensures written { format ≡ Format.Json → IfTrusted (R.view register.old) (R.view register.new) (WritesIf result (unmatched_row (R.view register.old).content number) is_later (W.contents writer.old) (W.contents writer.new)) }
-    ensures read { HaveRead (at_register result) (R.view register.old) (R.view register.new) }
+    ensures read { IsRead (at_register result) (R.view register.old) (R.view register.new) }
     ensures in_memory { R.in_memory ≡ true → result ≢ Err WalkFault.Memory }
     ensures unwritten { result ≡ Err (WalkFault.Sink SinkFault.Write) → W.may_fail ≡ true }
 {
@@ -56,7 +56,7 @@ fn write_rows<R: Register, W: Sink>(
     requires entries { IfTrusted (R.view register.old) (R.view register.old) (count ≡ length (R.view register.old).content.register) }
     requires first { IfTrusted (R.view register.old) (R.view register.old) (AreFirst numbers.now (R.view register.old).content count) }
     ensures written { format ≡ Format.Json → IfTrusted (R.view register.old) (R.view register.new) (WritesText (IsUnmatchedText (R.view register.old).content) result (W.contents writer.old) (W.contents writer.new)) }
-    ensures read { HaveRead (at_register result) (R.view register.old) (R.view register.new) }
+    ensures read { IsRead (at_register result) (R.view register.old) (R.view register.new) }
     ensures in_memory { R.in_memory ≡ true → result ≢ Err WalkFault.Memory }
     ensures unwritten { result ≡ Err (WalkFault.Sink SinkFault.Write) → W.may_fail ≡ true }
 {
@@ -86,7 +86,7 @@ fn write_by<R: Register, W: Sink>(
     requires stage { (R.view register.old).stage ≡ Stage.Idle }
     requires empty { IsEmpty numbers.old }
     ensures written { format ≡ Format.Json → IfTrusted (R.view register.old) (R.view register.new) (WritesText (IsUnmatchedText (R.view register.old).content) result (W.contents writer.old) (W.contents writer.new)) }
-    ensures read { HaveRead (at_register result) (R.view register.old) (R.view register.new) }
+    ensures read { IsRead (at_register result) (R.view register.old) (R.view register.new) }
     ensures in_memory { R.in_memory ≡ true → result ≢ Err WalkFault.Memory }
     ensures unwritten { result ≡ Err (WalkFault.Sink SinkFault.Write) → W.may_fail ≡ true }
 {
@@ -111,7 +111,7 @@ pub fn write_unmatched<R: Register, W: Sink>(
 ) -> Result<(), WalkFault>
     requires ready { IsReady false (R.view register.old) }
     ensures written { format ≡ Format.Json → IfTrusted (R.view register.old) (R.view register.new) (WritesText (IsUnmatchedText (R.view register.old).content) result (W.contents writer.old) (W.contents writer.new)) }
-    ensures read { HaveRead (at_register result) (R.view register.old) (R.view register.new) }
+    ensures read { IsRead (at_register result) (R.view register.old) (R.view register.new) }
     ensures in_memory { R.in_memory ≡ true → result ≢ Err WalkFault.Memory }
     ensures unwritten { result ≡ Err (WalkFault.Sink SinkFault.Write) → W.may_fail ≡ true }
 {

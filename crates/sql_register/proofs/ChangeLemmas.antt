@@ -1,13 +1,12 @@
 -- A call that changes the tables, told of the register, is a changing call.
-use Rattle.std.proofs.Common.{◌≡◌, ◌⊎◌, inl, inr, refl, sym, ap, subst, ◌∙◌, ℕ, [], true, IsTrue, Result, Ok, Err, OnOk, OnErr, arith}
+use Rattle.std.proofs.Common.{◌≡◌, ◌⊎◌, inl, inr, refl, sym, ap, subst, ◌∙◌, ℕ, [], None, true, IsTrue, Result, Ok, Err, IfErr, OnOk, OnErr}
 use Rattle.sqlite.specs.declared.error.Error.{Error}
 use Rattle.sqlite.specs.State.{State, HasCleanDisk}
 use Rattle.desk_register.specs.declared.register.Fault.{Fault}
-use Rattle.desk_register.specs.declared.register.Fault.TheVariants.{Memory, Storage}
 use Rattle.desk_register.specs.declared.register.Stage.{Stage}
 use Rattle.desk_register.specs.declared.register.Stage.TheVariants.{Begun, Failed}
 use Rattle.desk_register.specs.View.{IsChange}
-use Rattle.sql_tables.specs.Ends.{IfSound, Stays, IsUndone, FellWriting, IsWrite}
+use Rattle.sql_tables.specs.Ends.{ForCause, IfSound, Stays, IsUndone, FellWriting, IsWrite}
 use Rattle.sql_register.specs.Content.{content_in}
 use Rattle.sqlite.specs.Effect.{Database}
 use Rattle.desk_rules.specs.Content.{Content}
@@ -15,9 +14,9 @@ use Rattle.sql_register.specs.Holds.{Becomes, IsDesk}
 use Rattle.sql_register.specs.Kept.{IsOpenDesk, IsKept, shown}
 use Rattle.sql_register.specs.Settling.{IsLeft, IsTrial}
 use Rattle.sql_register.specs.Told.{IsTold}
-use Rattle.sql_register.proofs.ReadLemmas.{later_view, was_clean}
+use Rattle.sql_register.proofs.ReadLemmas.{blames_told, later_view, was_clean}
 
-module _ (old new : State) (new_stage : Stage) (failures new_failures room : ℕ) {X : Type 0} (given : Result X Error) (kept : IsKept old Begun) (trial : IsTrial given old new (Stays old new)) where
+module _ (old new : State) (new_stage : Stage) (room : ℕ) {X : Type 0} (given : Result X Error) (kept : IsKept old Begun) (trial : IsTrial given old new (Stays old new)) where
   -- what is kept of a register whose connection is open now
   was_kept : HasCleanDisk new → IsTrue new.is_open → IsOpenDesk old Begun
   was_kept clean is_open = kept (was_clean old new trial.later clean) (trial.opened clean is_open)
@@ -35,37 +34,36 @@ module _ (old new : State) (new_stage : Stage) (failures new_failures room : ℕ
   mark_stays : Stays old new → IsOpenDesk old Begun → content_in new.committed ≡ content_in old.committed
   mark_stays stays desk = ap content_in (stays.committed (desk.begun refl))
 
-  pub change_told : (result : Result X Fault) → IsTold given result Begun new_stage failures new_failures → IsChange result (shown old Begun failures room) (shown new new_stage new_failures room)
-  change_told result told = go given refl told
+  pub change_told : (result : Result X Fault) → old.step_limit ≡ None → IfSound old new (IsDesk old.now → old.in_transaction ≡ true → old.marks ≡ [] → IfErr given (ForCause old new)) → IsTold given result Begun new_stage → IsChange result (shown old Begun room) (shown new new_stage room)
+  change_told result unlimited caused told = go given refl told
     where
-      go : (r : Result X Error) → given ≡ r → IsTold r result Begun new_stage failures new_failures → IsChange result (shown old Begun failures room) (shown new new_stage new_failures room)
-      go (Ok x) is told = subst (λ r. IsChange r (shown old Begun failures room) (shown new new_stage new_failures room)) (sym told.0) (record {
+      go : (r : Result X Error) → given ≡ r → IsTold r result Begun new_stage → IsChange result (shown old Begun room) (shown new new_stage room)
+      go (Ok x) is told = subst (λ r. IsChange r (shown old Begun room) (shown new new_stage room)) (sym told.0) (record {
         ok = record {
           stage = told.1;
           sure = λ clean was_open. (stays x is clean was_open).is_open;
           mark = λ clean was_open. mark_stays (stays x is clean was_open) (kept (was_clean old new trial.later clean) was_open);
-          failures = λ clean few. told.2;
+          device = λ clean was_open. (stays x is clean was_open).is_open;
         };
         err = tt;
-        later = later_view old new Begun new_stage failures new_failures room trial.later trial.opened (omega (arith, told.2));
-        blame = record { storage = λ e. absurd (cc); memory = λ e. absurd (cc) };
+        later = later_view old new Begun new_stage room trial.later trial.opened;
+        blame = record { storage = λ e. absurd (cc) };
       })
-      go (Err e) is told = subst (λ r. IsChange r (shown old Begun failures room) (shown new new_stage new_failures room)) (sym told.1) (record {
+      go (Err e) is told = subst (λ r. IsChange r (shown old Begun room) (shown new new_stage room)) (sym told.0) (record {
         ok = tt;
         err = record {
-          stage = told.2;
+          stage = told.1;
           mark = λ clean is_open. elim (fell e is clean is_open) [ inl left ↦ ap content_in left.committed | inr undone ↦ ap content_in (undone.committed is_open) ];
           content = λ clean is_open idle. absurd (cc);
         };
-        later = later_view old new Begun new_stage failures new_failures room trial.later trial.opened told.3.grows;
-        blame = record {
-          storage = λ same clean few. told.3.storage (let it : told.0 ≡ Storage = cc in it) few;
-          memory = λ same clean few. told.3.memory (let it : told.0 ≡ Memory = cc in it);
-        };
+        later = later_view old new Begun new_stage room trial.later trial.opened;
+        blame = blames_told old new Begun new_stage room e kept trial.later unlimited (λ clean was_open has desk.
+            let open_desk = kept (was_clean old new trial.later clean) was_open in
+            subst (λ (r : Result X Error). IfErr r (ForCause old new)) is (caused clean was_open has desk (open_desk.begun refl) (open_desk.unmarked refl)));
       })
 
   -- what is kept stays so after a change
-  pub kept_changed : (result : Result X Fault) → IsTold given result Begun new_stage failures new_failures → IfSound old new (IsDesk old.now → old.in_transaction ≡ true → old.marks ≡ [] → OnOk given (IsDesk new.now)) → IsKept new new_stage
+  pub kept_changed : (result : Result X Fault) → IsTold given result Begun new_stage → IfSound old new (IsDesk old.now → old.in_transaction ≡ true → old.marks ≡ [] → OnOk given (IsDesk new.now)) → IsKept new new_stage
   kept_changed result told desks clean is_open = go given refl told
     where
       desk : IsOpenDesk old Begun
@@ -105,20 +103,20 @@ module _ (old new : State) (new_stage : Stage) (failures new_failures room : ℕ
         outside = λ out. undone.marks;
       }
 
-      go : (r : Result X Error) → given ≡ r → IsTold r result Begun new_stage failures new_failures → IsOpenDesk new new_stage
+      go : (r : Result X Error) → given ≡ r → IsTold r result Begun new_stage → IsOpenDesk new new_stage
       go (Ok x) is told = subst (IsOpenDesk new) (sym told.1) (well (stays x is clean (trial.opened clean is_open))
           (subst (λ (r : Result X Error). OnOk r (IsDesk new.now)) is (desks clean (trial.opened clean is_open) desk.schema (desk.now (λ e. absurd (cc))) (desk.begun refl) (desk.unmarked refl))))
-      go (Err e) is told = subst (IsOpenDesk new) (sym told.2) (lost (fell e is clean is_open))
+      go (Err e) is told = subst (IsOpenDesk new) (sym told.1) (lost (fell e is clean is_open))
 
   -- what is said of what was given is said of what is told
-  pub on_told : (P : Type 0) (result : Result X Fault) → IsTold given result Begun new_stage failures new_failures → IfSound old new (IsDesk old.now → old.in_transaction ≡ true → old.marks ≡ [] → OnOk given P) → HasCleanDisk new → IsTrue old.is_open → OnOk result P
+  pub on_told : (P : Type 0) (result : Result X Fault) → IsTold given result Begun new_stage → IfSound old new (IsDesk old.now → old.in_transaction ≡ true → old.marks ≡ [] → OnOk given P) → HasCleanDisk new → IsTrue old.is_open → OnOk result P
   on_told P result told says clean was_open = go given refl told
     where
-      go : (r : Result X Error) → given ≡ r → IsTold r result Begun new_stage failures new_failures → OnOk result P
+      go : (r : Result X Error) → given ≡ r → IsTold r result Begun new_stage → OnOk result P
       go (Ok x) is told =
           let desk = kept (was_clean old new trial.later clean) was_open in
           subst (λ r. OnOk r P) (sym told.0) (subst (λ (r : Result X Error). OnOk r P) is (says clean was_open desk.schema (desk.now (λ e. absurd (cc))) (desk.begun refl) (desk.unmarked refl)))
-      go (Err e) is told = subst (λ r. OnOk r P) (sym told.1) tt
+      go (Err e) is told = subst (λ r. OnOk r P) (sym told.0) tt
 
 -- a call that works in no savepoint
 write_trial : {X : Type 0} (r : Result X Error) (a b : State) → IsWrite r a b → IsTrial r a b (Stays a b)
@@ -138,15 +136,15 @@ write_trial {X = X} r a b write = record {
     ]
 
 -- the same at whatever stage is known to be that of an open `begin`
-pub tried_kept : (old new : State) (stage new_stage : Stage) (failures new_failures room : ℕ) {X : Type 0} (given : Result X Error) (result : Result X Fault) → stage ≡ Begun → IsKept old stage → IsTrial given old new (Stays old new)
-    → IsTold given result stage new_stage failures new_failures → IfSound old new (IsDesk old.now → old.in_transaction ≡ true → old.marks ≡ [] → OnOk given (IsDesk new.now)) → IsKept new new_stage
-tried_kept old new stage new_stage failures new_failures room {X = X} given result begun kept trial told desks =
-    kept_changed old new new_stage failures new_failures room given (subst (IsKept old) begun kept) trial result (subst (λ s. IsTold given result s new_stage failures new_failures) begun told) desks
+pub tried_kept : (old new : State) (stage new_stage : Stage) (room : ℕ) {X : Type 0} (given : Result X Error) (result : Result X Fault) → stage ≡ Begun → IsKept old stage → IsTrial given old new (Stays old new)
+    → IsTold given result stage new_stage → IfSound old new (IsDesk old.now → old.in_transaction ≡ true → old.marks ≡ [] → OnOk given (IsDesk new.now)) → IsKept new new_stage
+tried_kept old new stage new_stage room {X = X} given result begun kept trial told desks =
+    kept_changed old new new_stage room given (subst (IsKept old) begun kept) trial result (subst (λ s. IsTold given result s new_stage) begun told) desks
 
-pub changed_kept : (old new : State) (stage new_stage : Stage) (failures new_failures room : ℕ) {X : Type 0} (given : Result X Error) (result : Result X Fault) → stage ≡ Begun → IsKept old stage → IsWrite given old new
-    → IsTold given result stage new_stage failures new_failures → IfSound old new (IsDesk old.now → OnOk given (IsDesk new.now)) → IsKept new new_stage
-changed_kept old new stage new_stage failures new_failures room {X = X} given result begun kept write told desks =
-    tried_kept old new stage new_stage failures new_failures room given result begun kept (write_trial given old new write) told (λ clean is_open has desk inside none. desks clean is_open has desk)
+pub changed_kept : (old new : State) (stage new_stage : Stage) (room : ℕ) {X : Type 0} (given : Result X Error) (result : Result X Fault) → stage ≡ Begun → IsKept old stage → IsWrite given old new
+    → IsTold given result stage new_stage → IfSound old new (IsDesk old.now → OnOk given (IsDesk new.now)) → IsKept new new_stage
+changed_kept old new stage new_stage room {X = X} given result begun kept write told desks =
+    tried_kept old new stage new_stage room given result begun kept (write_trial given old new write) told (λ clean is_open has desk inside none. desks clean is_open has desk)
 
 pub on_becomes : {X : Type 0} (db : Database) (content : Content) (r : Result X Error) → OnOk r (Becomes db content) → OnOk r (IsDesk db)
 on_becomes db content (Ok x) becomes = becomes.desk
@@ -157,8 +155,20 @@ on_content db content (Ok x) becomes = becomes.content_is
 on_content db content (Err e) becomes = tt
 
 -- what the tables became is what the register holds
-pub told_content : (old new : State) (stage new_stage : Stage) (failures new_failures room : ℕ) {X : Type 0} (given : Result X Error) (result : Result X Fault) (content : Content) → stage ≡ Begun → IsKept old stage → IsWrite given old new
-    → IsTold given result stage new_stage failures new_failures → IfSound old new (IsDesk old.now → OnOk given (Becomes new.now content)) → HasCleanDisk new → IsTrue old.is_open → OnOk result (content_in new.now ≡ content)
-told_content old new stage new_stage failures new_failures room {X = X} given result content begun kept write told becomes =
-    on_told old new new_stage failures new_failures room given (subst (IsKept old) begun kept) (write_trial given old new write) (content_in new.now ≡ content) result (subst (λ s. IsTold given result s new_stage failures new_failures) begun told)
+pub told_content : (old new : State) (stage new_stage : Stage) (room : ℕ) {X : Type 0} (given : Result X Error) (result : Result X Fault) (content : Content) → stage ≡ Begun → IsKept old stage → IsWrite given old new
+    → IsTold given result stage new_stage → IfSound old new (IsDesk old.now → OnOk given (Becomes new.now content)) → HasCleanDisk new → IsTrue old.is_open → OnOk result (content_in new.now ≡ content)
+told_content old new stage new_stage room {X = X} given result content begun kept write told becomes =
+    on_told old new new_stage room given (subst (IsKept old) begun kept) (write_trial given old new write) (content_in new.now ≡ content) result (subst (λ s. IsTold given result s new_stage) begun told)
     (λ clean is_open has desk inside none. on_content new.now content given (becomes clean is_open has desk))
+
+-- a change is told so at whatever stage is known to be that of an open `begin`
+pub trial_said : (old new : State) (stage new_stage : Stage) (room : ℕ) {X : Type 0} (given : Result X Error) (result : Result X Fault) → stage ≡ Begun → IsKept old stage → old.step_limit ≡ None → IsTrial given old new (Stays old new)
+    → IfSound old new (IsDesk old.now → old.in_transaction ≡ true → old.marks ≡ [] → IfErr given (ForCause old new)) → IsTold given result stage new_stage → IsChange result (shown old stage room) (shown new new_stage room)
+trial_said old new stage new_stage room {X = X} given result begun kept unlimited trial caused told =
+    subst (λ s. IsChange result (shown old s room) (shown new new_stage room)) (sym begun)
+    (change_told old new new_stage room given (subst (IsKept old) begun kept) trial result unlimited caused (subst (λ s. IsTold given result s new_stage) begun told))
+
+pub write_said : (old new : State) (stage new_stage : Stage) (room : ℕ) {X : Type 0} (given : Result X Error) (result : Result X Fault) → stage ≡ Begun → IsKept old stage → old.step_limit ≡ None → IsWrite given old new
+    → IfSound old new (IsDesk old.now → IfErr given (ForCause old new)) → IsTold given result stage new_stage → IsChange result (shown old stage room) (shown new new_stage room)
+write_said old new stage new_stage room {X = X} given result begun kept unlimited write caused told =
+    trial_said old new stage new_stage room given result begun kept unlimited (write_trial given old new write) (λ clean is_open has desk inside none. caused clean is_open has desk) told

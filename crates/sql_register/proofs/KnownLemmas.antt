@@ -46,7 +46,7 @@ ok_first P Q (Err e) h = tt
 
 -- ---- calls, as they are told of the register
 
-module _ (old new : State) (stage new_stage : Stage) (failures new_failures room : ℕ) {X : Type 0} (given : Result X Error) (result : Result X Fault) (told : IsTold given result stage new_stage failures new_failures) (new_known : Known) where
+module _ (old new : State) (stage new_stage : Stage) (room : ℕ) {X : Type 0} (given : Result X Error) (result : Result X Fault) (told : IsTold given result stage new_stage) (new_known : Known) where
   abbrev Now : Type 0
   Now = IsKnownOf new_known (content_in new.now).register (content_in new.now).sent
 
@@ -57,7 +57,7 @@ module _ (old new : State) (stage new_stage : Stage) (failures new_failures room
   pub known_told : (HasCleanDisk new → IsTrue new.is_open → IsTrue old.is_open) → OnErr given (KnowsNothing new_known) → (HasCleanDisk new → IsTrue old.is_open → stage ≢ Failed → OnOk given Now) → IsKnown new new_stage new_known
   known_told opened nothing well clean is_open goes = go given refl told
     where
-      go : (r : Result X Error) → given ≡ r → IsTold r result stage new_stage failures new_failures → Now
+      go : (r : Result X Error) → given ≡ r → IsTold r result stage new_stage → Now
       go (Ok x) is told = subst (λ (r : Result X Error). OnOk r Now) is (well clean (opened clean is_open) (λ e. goes (told.1 ∙ e)))
       go (Err e) is told = subst (λ (r : Result X Error). OnErr r (KnowsNothing new_known)) is nothing (content_in new.now).register (content_in new.now).sent
 
@@ -84,27 +84,27 @@ pub bounded_later : (old new : State) (room : ℕ) → IsBounded old room → Is
 bounded_later old new room was later = record { few = was.few; unlimited = later.limit ∙ was.unlimited }
 
 -- a look, told of the register, leaves it what it must be
-pub holds_told : (old new : State) (stage new_stage : Stage) (failures new_failures room : ℕ) (known new_known : Known) {X : Type 0} (given : Result X Error) (result : Result X Fault)
-    → IsKept old stage × IsBounded old room × IsKnown old stage known → IsLook given old new → IsTold given result stage new_stage failures new_failures
+pub holds_told : (old new : State) (stage new_stage : Stage) (room : ℕ) (known new_known : Known) {X : Type 0} (given : Result X Error) (result : Result X Fault)
+    → IsKept old stage × IsBounded old room × IsKnown old stage known → IsLook given old new → IsTold given result stage new_stage
     → ((register : List Kept) (sent : List Sent) → IsKnownOf known register sent → OnOk given (IsKnownOf new_known register sent)) → OnErr given (KnowsNothing new_known)
     → IsKept new new_stage × IsBounded new room × IsKnown new new_stage new_known
-holds_told old new stage new_stage failures new_failures room known new_known given result held look told stays nothing = (
-  kept_told old new stage new_stage failures new_failures room given result held.0 look told,
+holds_told old new stage new_stage room known new_known given result held look told stays nothing = (
+  kept_told old new stage new_stage room given result held.0 look told,
   bounded_later old new room held.1 look.later,
-  known_looked old new stage new_stage failures new_failures room given result told new_known held.0 look nothing
+  known_looked old new stage new_stage room given result told new_known held.0 look nothing
       (λ clean was_open goes. stays (content_in old.now).register (content_in old.now).sent (held.2 (was_clean old new look.later clean) was_open goes)),
 )
 
 -- and so does one that finds out more of it
-module _ (old new : State) (stage new_stage : Stage) (failures new_failures room : ℕ) (known : Known) {X : Type 0} (given : Result X Error) (result : Result X Fault) (P : List Kept → List Sent → X → Type 0)
-    (held : IsKept old stage × IsBounded old room × IsKnown old stage known) (look : IsLook given old new) (told : IsTold given result stage new_stage failures new_failures)
+module _ (old new : State) (stage new_stage : Stage) (room : ℕ) (known : Known) {X : Type 0} (given : Result X Error) (result : Result X Fault) (P : List Kept → List Sent → X → Type 0)
+    (held : IsKept old stage × IsBounded old room × IsKnown old stage known) (look : IsLook given old new) (told : IsTold given result stage new_stage)
     (value : IfSound old new (IsDesk old.now → IsKnownOf known (content_in old.now).register (content_in old.now).sent → IfOk given (P (content_in old.now).register (content_in old.now).sent))) where
   pub holds_found : (new_known : Known) → ((register : List Kept) (sent : List Sent) → IsKnownOf known register sent → IfOk given (P register sent) → OnOk given (IsKnownOf new_known register sent)) → OnErr given (KnowsNothing new_known)
       → IsKept new new_stage × IsBounded new room × IsKnown new new_stage new_known
   holds_found new_known stays nothing = (
-    kept_told old new stage new_stage failures new_failures room given result held.0 look told,
+    kept_told old new stage new_stage room given result held.0 look told,
     bounded_later old new room held.1 look.later,
-    known_looked old new stage new_stage failures new_failures room given result told new_known held.0 look nothing (λ clean was_open goes.
+    known_looked old new stage new_stage room given result told new_known held.0 look nothing (λ clean was_open goes.
         (let was = was_clean old new look.later clean in
         let desk = held.0 was was_open in
         let of = held.2 was was_open goes in
@@ -113,7 +113,7 @@ module _ (old new : State) (stage new_stage : Stage) (failures new_failures room
 
   -- what was found is what the register tells
   pub value_found : HasCleanDisk new → IsTrue old.is_open → stage ≢ Failed → IfOk result (P (content_in old.now).register (content_in old.now).sent)
-  value_found clean was_open goes = value_told old new stage new_stage failures new_failures room (P (content_in old.now).register (content_in old.now).sent) given result held.0 look.later
+  value_found clean was_open goes = value_told old new stage new_stage room (P (content_in old.now).register (content_in old.now).sent) given result held.0 look.later
       (λ clean was_open has desk. value clean was_open has desk (held.2 (was_clean old new look.later clean) was_open goes)) told clean was_open goes
 
 pub idle_goes : (stage : Stage) → stage ≡ Idle → stage ≢ Failed
@@ -123,14 +123,14 @@ pub begun_goes : (stage : Stage) → stage ≡ Begun → stage ≢ Failed
 begun_goes stage begun failed = (let e : Begun ≡ Failed = sym begun ∙ failed in cc)
 
 -- and so does a change
-pub holds_changed : (old new : State) (stage new_stage : Stage) (failures new_failures room : ℕ) (known new_known : Known) {X : Type 0} (given : Result X Error) (result : Result X Fault) (content : Content)
-    → stage ≡ Begun → IsKept old stage × IsBounded old room × IsKnown old stage known → IsWrite given old new → IsTold given result stage new_stage failures new_failures
+pub holds_changed : (old new : State) (stage new_stage : Stage) (room : ℕ) (known new_known : Known) {X : Type 0} (given : Result X Error) (result : Result X Fault) (content : Content)
+    → stage ≡ Begun → IsKept old stage × IsBounded old room × IsKnown old stage known → IsWrite given old new → IsTold given result stage new_stage
     → IfSound old new (IsDesk old.now → IsKnownOf known (content_in old.now).register (content_in old.now).sent → OnOk given (Becomes new.now content)) → OnErr given (KnowsNothing new_known)
     → IfSound old new (IsDesk old.now → IsKnownOf known (content_in old.now).register (content_in old.now).sent → OnOk given (IsKnownOf new_known content.register content.sent)) → IsKept new new_stage × IsBounded new room × IsKnown new new_stage new_known
-holds_changed old new stage new_stage failures new_failures room known new_known {X = X} given result content begun held write told becomes nothing well = (
-  changed_kept old new stage new_stage failures new_failures room given result begun held.0 write told (λ clean is_open has desk. on_becomes new.now content given (is clean is_open has desk)),
+holds_changed old new stage new_stage room known new_known {X = X} given result content begun held write told becomes nothing well = (
+  changed_kept old new stage new_stage room given result begun held.0 write told (λ clean is_open has desk. on_becomes new.now content given (is clean is_open has desk)),
   bounded_later old new room held.1 write.later,
-  known_becomes old new stage new_stage failures new_failures room given result told new_known content held.0 write.later write.opened nothing is
+  known_becomes old new stage new_stage room given result told new_known content held.0 write.later write.opened nothing is
       (λ clean is_open goes. (let desk = held.0 (was_clean old new write.later clean) is_open in well clean is_open desk.schema (desk.now goes) (of clean is_open))),
 )
   where
@@ -141,9 +141,9 @@ holds_changed old new stage new_stage failures new_failures room known new_known
     is clean is_open has desk = becomes clean is_open has desk (of clean is_open)
 
 -- what the tables became is what the register holds
-pub content_changed : (old new : State) (stage new_stage : Stage) (failures new_failures room : ℕ) (known : Known) {X : Type 0} (given : Result X Error) (result : Result X Fault) (content : Content)
-    → stage ≡ Begun → IsKept old stage × IsBounded old room × IsKnown old stage known → IsWrite given old new → IsTold given result stage new_stage failures new_failures
+pub content_changed : (old new : State) (stage new_stage : Stage) (room : ℕ) (known : Known) {X : Type 0} (given : Result X Error) (result : Result X Fault) (content : Content)
+    → stage ≡ Begun → IsKept old stage × IsBounded old room × IsKnown old stage known → IsWrite given old new → IsTold given result stage new_stage
     → IfSound old new (IsDesk old.now → IsKnownOf known (content_in old.now).register (content_in old.now).sent → OnOk given (Becomes new.now content)) → HasCleanDisk new → IsTrue old.is_open → OnOk result (content_in new.now ≡ content)
-content_changed old new stage new_stage failures new_failures room known {X = X} given result content begun held write told becomes =
-    told_content old new stage new_stage failures new_failures room given result content begun held.0 write told
+content_changed old new stage new_stage room known {X = X} given result content begun held write told becomes =
+    told_content old new stage new_stage room given result content begun held.0 write told
     (λ clean is_open has desk. becomes clean is_open has desk (held.2 (was_clean old new write.later clean) is_open (begun_goes stage begun)))

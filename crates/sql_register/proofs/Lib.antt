@@ -29,3 +29,5 @@ pub mod WithinLemmas
 pub mod TriedContent
 pub mod EndedContent
 pub mod TrialLemmas
+pub mod WantLemmas
+pub mod SendableLemmas

@@ -1,26 +1,40 @@
 -- A call that only looks, told of the register, is a reading call.
-use Rattle.std.proofs.Common.{◌≡◌, ◌≢◌, inl, inr, refl, sym, ap, subst, ◌∙◌, ℕ, ◌≤◌, IsTrue, Result, Ok, Err, IfOk, arith}
+use Rattle.std.proofs.Common.{◌≡◌, ◌≢◌, inl, inr, refl, sym, ap, subst, ◌∙◌, ℕ, None, IsTrue, Result, Ok, Err, IfErr, IfOk, arith}
 use Rattle.sqlite.specs.declared.error.Error.{Error}
 use Rattle.sqlite.specs.State.{State, HasCleanDisk}
 use Rattle.desk_register.specs.declared.register.Fault.{Fault}
 use Rattle.desk_register.specs.declared.register.Fault.TheVariants.{Memory, Storage}
 use Rattle.desk_register.specs.declared.register.Stage.{Stage}
 use Rattle.desk_register.specs.declared.register.Stage.TheVariants.{Idle, Begun, Failed}
-use Rattle.desk_register.specs.View.{IsLater as IsLaterView, IsRead, fallen}
-use Rattle.sql_tables.specs.Ends.{IfSound, IsLater, IsSame, IsUndone, FellLooking, IsLook}
+use Rattle.desk_register.specs.View.{Blames, IsLater as IsLaterView, IsRead, fallen}
+use Rattle.sql_tables.specs.Ends.{ForCause, IfSound, IsLater, IsSame, IsUndone, FellLooking, IsLook}
 use Rattle.sql_register.specs.Content.{content_in}
 use Rattle.sql_register.specs.Holds.{IsDesk}
 use Rattle.sql_register.specs.Kept.{IsOpenDesk, IsKept, shown}
-use Rattle.sql_register.specs.Told.{IsTold}
+use Rattle.sql_register.specs.Told.{IsTold, fault_for}
+use Rattle.sql_register.proofs.WantLemmas.{want_is_memory}
 
 -- the disk was clean where it is now
 pub was_clean : (old new : State) → IsLater old new → HasCleanDisk new → HasCleanDisk old
 was_clean old new later clean = omega (arith, clean, later.clean)
 
-module _ (old new : State) (stage new_stage : Stage) (failures new_failures room : ℕ) where
-  pub later_view : IsLater old new → (HasCleanDisk new → IsTrue new.is_open → IsTrue old.is_open) → failures ≤ new_failures
-      → IsLaterView (shown old stage failures room) (shown new new_stage new_failures room)
-  later_view later opened grows = record { honest = was_clean old new later; sure = opened; failures = grows; room = refl }
+module _ (old new : State) (stage new_stage : Stage) (room : ℕ) where
+  pub later_view : IsLater old new → (HasCleanDisk new → IsTrue new.is_open → IsTrue old.is_open)
+      → IsLaterView (shown old stage room) (shown new new_stage room)
+  later_view later opened = record { honest = was_clean old new later; sure = opened; room = refl; device_honest = was_clean old new later; failures = later.faults }
+
+  -- where a call on the tables fails only for cause, the device is blamed where it failed
+  pub blames_told : {X : Type 0} (e : Error) → IsKept old stage → IsLater old new → old.step_limit ≡ None → IfSound old new (IsDesk old.now → ForCause old new e)
+      → Blames {X = X} (Err (fault_for e)) (shown old stage room) (shown new new_stage room)
+  blames_told {X} e kept later unlimited caused = record {
+    storage = λ named goes sure device clean trusted few.
+        let desk = kept (was_clean old new later clean) sure in
+        let more = later.faults in
+        elim (caused clean sure desk.schema (desk.now goes) unlimited) [
+          | inl want ↦ absurd (want_is_memory X e want named)
+          | inr grows ↦ grows (omega (arith, more, few))
+        ];
+  }
 
   -- where a look failed with no `begin` open, what is held is as it was
   fell_content : IsKept old stage → IsLater old new → (HasCleanDisk new → IsTrue new.is_open → IsTrue old.is_open) → IfSound old new (FellLooking old new)
@@ -38,49 +52,44 @@ module _ (old new : State) (stage new_stage : Stage) (failures new_failures room
       elim (fell clean was_open desk.schema) [ inl same ↦ ap content_in same.committed | inr undone ↦ ap content_in (undone.committed is_open) ]
 
   module _ {X : Type 0} where
-    pub read_told : (given : Result X Error) (result : Result X Fault) → IsKept old stage → IsLook given old new → IsTold given result stage new_stage failures new_failures
-        → IsRead result (shown old stage failures room) (shown new new_stage new_failures room)
-    read_told (Ok x) result kept look told =
+    pub read_told : (given : Result X Error) (result : Result X Fault) → IsKept old stage → old.step_limit ≡ None → IsLook given old new → IfSound old new (IsDesk old.now → IfErr given (ForCause old new)) → IsTold given result stage new_stage
+        → IsRead result (shown old stage room) (shown new new_stage room)
+    read_told (Ok x) result kept unlimited look caused told =
         let same : HasCleanDisk new → IsTrue old.is_open → IsSame old new = λ clean was_open. look.ok clean was_open (kept (was_clean old new look.later clean) was_open).schema in
-        subst (λ r. IsRead r (shown old stage failures room) (shown new new_stage new_failures room)) (sym told.0) (record {
+        subst (λ r. IsRead r (shown old stage room) (shown new new_stage room)) (sym told.0) (record {
           same = λ clean was_open. ap content_in (same clean was_open).now;
           ok = record {
             stage = told.1;
             sure = λ clean was_open. (same clean was_open).is_open;
             mark = λ clean was_open. ap content_in (same clean was_open).committed;
-            failures = λ clean few. told.2;
+            device = λ clean was_open. (same clean was_open).is_open;
           };
           err = tt;
-          later = later_view look.later look.opened (omega (arith, told.2));
-          blame = record { storage = λ e. absurd (cc); memory = λ e. absurd (cc) };
+          later = later_view look.later look.opened;
+          blame = record { storage = λ e. absurd (cc) };
         })
-    read_told (Err e) result kept look told =
-        let fault = told.0 in
-        let counts = told.3 in
-        subst (λ r. IsRead r (shown old stage failures room) (shown new new_stage new_failures room)) (sym told.1) (record {
+    read_told (Err e) result kept unlimited look caused told =
+        subst (λ r. IsRead r (shown old stage room) (shown new new_stage room)) (sym told.0) (record {
           same = λ clean was_open. tt;
           ok = tt;
           err = record {
-            stage = told.2;
+            stage = told.1;
             mark = λ clean is_open. fell_mark kept look.later look.opened look.err clean is_open;
             content = λ clean is_open idle. fell_content kept look.later look.opened look.err clean is_open idle;
           };
-          later = later_view look.later look.opened counts.grows;
-          blame = record {
-            storage = λ is clean few. counts.storage (let same : fault ≡ Storage = cc in same) few;
-            memory = λ is clean few. counts.memory (let same : fault ≡ Memory = cc in same);
-          };
+          later = later_view look.later look.opened;
+          blame = blames_told e kept look.later unlimited caused;
         })
 
     pub value_told : (P : X → Type 0) (given : Result X Error) (result : Result X Fault) → IsKept old stage → IsLater old new → IfSound old new (IsDesk old.now → IfOk given P)
-        → IsTold given result stage new_stage failures new_failures → HasCleanDisk new → IsTrue old.is_open → stage ≢ Failed → IfOk result P
+        → IsTold given result stage new_stage → HasCleanDisk new → IsTrue old.is_open → stage ≢ Failed → IfOk result P
     value_told P (Ok x) result kept later value told clean was_open goes =
         let desk = kept (was_clean old new later clean) was_open in
         subst (λ r. IfOk r P) (sym told.0) (value clean was_open desk.schema (desk.now goes))
-    value_told P (Err e) result kept later value told clean was_open goes = subst (λ r. IfOk r P) (sym told.1) tt
+    value_told P (Err e) result kept later value told clean was_open goes = subst (λ r. IfOk r P) (sym told.0) tt
 
     -- what is kept stays so after a look
-    pub kept_told : (given : Result X Error) (result : Result X Fault) → IsKept old stage → IsLook given old new → IsTold given result stage new_stage failures new_failures → IsKept new new_stage
+    pub kept_told : (given : Result X Error) (result : Result X Fault) → IsKept old stage → IsLook given old new → IsTold given result stage new_stage → IsKept new new_stage
     kept_told (Ok x) result kept look told clean is_open =
         let was_open = look.opened clean is_open in
         let desk = kept (was_clean old new look.later clean) was_open in
@@ -101,7 +110,7 @@ module _ (old new : State) (stage new_stage : Stage) (failures new_failures room
     kept_told (Err e) result kept look told clean is_open =
         let was_open = look.opened clean is_open in
         let desk = kept (was_clean old new look.later clean) was_open in
-        subst (IsOpenDesk new) (sym told.2) (elim (look.err clean was_open desk.schema) [ inl same ↦ still stage same desk | inr undone ↦ gone stage undone desk is_open ])
+        subst (IsOpenDesk new) (sym told.1) (elim (look.err clean was_open desk.schema) [ inl same ↦ still stage same desk | inr undone ↦ gone stage undone desk is_open ])
       where
         still : (s : Stage) → IsSame old new → IsOpenDesk old s → IsOpenDesk new (fallen s)
         still Idle same desk = record {

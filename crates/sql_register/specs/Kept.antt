@@ -17,13 +17,12 @@ use Rattle.sql_register.specs.Holds.{IsDesk}
 pub record Kept (S : Type 0) : Type 0 where
   pub connection : Held S
   pub stage : Stage
-  pub failures : ℕ
   pub room : ℕ
 
 abbrev pub kept_code : {S : Type 0} → Coded S → Coded (Kept S)
 kept_code {S} store =
-    code_by (Held S × (Stage × (ℕ × ℕ))) (coded× (held_code store) (coded× stage.the_row.coded (coded× coded_ℕ coded_ℕ))) (λ k. (k.connection, (k.stage, (k.failures, k.room))))
-    (λ p. record { connection = p.0; stage = p.1.0; failures = p.1.1.0; room = p.1.1.1 }) (λ _. refl)
+    code_by (Held S × (Stage × ℕ)) (coded× (held_code store) (coded× stage.the_row.coded coded_ℕ)) (λ k. (k.connection, (k.stage, k.room)))
+    (λ p. record { connection = p.0; stage = p.1.0; room = p.1.1 }) (λ _. refl)
 
 -- Where no wrong answer was taken as true and the connection is open: what was committed is a desk's tables, and what is
 -- seen until a call has failed; with no `begin` open that is the same, and no transaction is; within one it is open, with no
@@ -47,16 +46,16 @@ abbrev pub IsKept : State → Stage → Type 0
 IsKept s stage = HasCleanDisk s → IsTrue s.is_open → IsOpenDesk s stage
 
 -- `back` goes back to what was committed
-abbrev pub shown : State → Stage → ℕ → ℕ → View
-shown s stage failures room = record {
+abbrev pub shown : State → Stage → ℕ → View
+shown s stage room = record {
   content = content_in s.now;
   mark = content_in s.committed;
   stage = stage;
-  failures = failures;
   room = room;
   is_honest = HasCleanDisk s;
   is_sure = IsTrue s.is_open;
+  device = record { failures = s.faults; is_honest = HasCleanDisk s; is_sure = IsTrue s.is_open };
 }
 
 abbrev pub view_of : {S : Type 0} → Ghosts S → Kept S → View
-view_of store k = shown (state store k.connection) k.stage k.failures k.room
+view_of store k = shown (state store k.connection) k.stage k.room

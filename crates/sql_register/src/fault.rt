@@ -1,4 +1,4 @@
-//! How a register fares as its calls end: its stage, its failures, and what it knows of the tables.
+//! How a register fares as its calls end: its stage, and what it knows of the tables.
 ghost use Rattle.std.specs.Prelude.{◌≡◌, ◌+◌, List, [], ◌∷◌, ◌++◌, length, IfOk, IfSome, OnErr, OnOk};
 ghost use Rattle.desk_register.specs.View.{fallen};
 ghost use Rattle.desk_rules.specs.declared.answers.reply.Kept.{Kept};
@@ -7,7 +7,7 @@ ghost use Rattle.desk_rules.specs.Facts.{is_participant, kind_of, owner_of};
 ghost use Rattle.sql_entries.specs.Entries.{entries_in};
 ghost use Rattle.sql_sent.specs.Messages.{sent_to};
 ghost use Rattle.sql_register.specs.Known.{IsKnownOf, KnowsNothing};
-ghost use Rattle.sql_register.specs.Told.{Counts, IsTold};
+ghost use Rattle.sql_register.specs.Told.{IsTold, fault_for};
 
 use crate::known::Known;
 use desk_codes::{AccountId, Bic, Isin};
@@ -17,12 +17,10 @@ use desk_rules::Entry;
 use sqlite::{Error, ErrorCode};
 use std::alloc::Global;
 
-/// How a register fares: the stage of what was begun, how many answers named the device, and what is known of the tables.
+/// How a register fares: the stage of what was begun, and what is known of the tables.
 #[derive(Drop)]
 pub struct Course {
     pub(crate) stage: Stage,
-    /// It stops at the greatest number
-    pub(crate) failures: u64,
     pub(crate) known: Known,
 }
 
@@ -37,9 +35,9 @@ fn fallen(stage: Stage) -> Stage
 }
 
 impl Course {
-    /// How a call failed, as it is told of the register: want of memory, or the device, which is counted.
+    /// How a call failed, as it is told of the register: want of memory, or the device.
     pub(crate) fn fault_of(&mut self, error: Error) -> Fault
-        ensures counts { Counts error result self.old.failures self.new.failures }
+        ensures which { result ≡ fault_for error }
         ensures stage { self.new.stage ≡ self.old.stage }
         ensures nothing { KnowsNothing self.new.known }
     {
@@ -47,17 +45,13 @@ impl Course {
         match error {
             Error::SqliteFailure(ErrorCode::OutOfMemory | ErrorCode::TooBig | ErrorCode::NoRowid) =>
                 Fault::Memory,
-            _ => {
-                self.failures = self.failures.saturating_add(1);
-                Fault::Storage
-            }
+            _ => Fault::Storage,
         }
     }
 
     /// What was begun is taken back.
     pub(crate) fn taken_back(&mut self)
         ensures stage { self.new.stage ≡ Stage.Idle }
-        ensures failures { self.new.failures ≡ self.old.failures }
         ensures nothing { KnowsNothing self.new.known }
     {
         self.stage = Stage::Idle;
@@ -66,7 +60,7 @@ impl Course {
 
     /// What a call on the tables gave, as it is told of the register: where the call failed, so does what was begun.
     pub(crate) fn told<T>(&mut self, given: Result<T, Error>) -> Result<T, Fault>
-        ensures told { IsTold given result self.old.stage self.new.stage self.old.failures self.new.failures }
+        ensures told { IsTold given result self.old.stage self.new.stage }
         ensures known { (register : List Kept) (sent : List Sent) → IsKnownOf self.old.known register sent → OnOk given (IsKnownOf self.new.known register sent) }
         ensures nothing { OnErr given (KnowsNothing self.new.known) }
     {
@@ -81,7 +75,7 @@ impl Course {
 
     /// The same of a call that counts the entries.
     pub(crate) fn told_entries(&mut self, given: Result<u64, Error>) -> Result<u64, Fault>
-        ensures told { IsTold given result self.old.stage self.new.stage self.old.failures self.new.failures }
+        ensures told { IsTold given result self.old.stage self.new.stage }
         ensures known { (register : List Kept) (sent : List Sent) → IsKnownOf self.old.known register sent → IfOk given (λ n. n ≡ length register) → OnOk given (IsKnownOf self.new.known register sent) }
         ensures nothing { OnErr given (KnowsNothing self.new.known) }
     {
@@ -96,7 +90,7 @@ impl Course {
 
     /// The same of a call that counts the messages.
     pub(crate) fn told_messages(&mut self, given: Result<u64, Error>) -> Result<u64, Fault>
-        ensures told { IsTold given result self.old.stage self.new.stage self.old.failures self.new.failures }
+        ensures told { IsTold given result self.old.stage self.new.stage }
         ensures known { (register : List Kept) (sent : List Sent) → IsKnownOf self.old.known register sent → IfOk given (λ n. n ≡ length sent) → OnOk given (IsKnownOf self.new.known register sent) }
         ensures nothing { OnErr given (KnowsNothing self.new.known) }
     {
@@ -116,7 +110,7 @@ impl Course {
         bic: Bic,
         given: Result<bool, Error>,
     ) -> Result<bool, Fault>
-        ensures told { IsTold given result self.old.stage self.new.stage self.old.failures self.new.failures }
+        ensures told { IsTold given result self.old.stage self.new.stage }
         ensures known { (register : List Kept) (sent : List Sent) → IsKnownOf self.old.known register sent → IfOk given (λ is. is ≡ is_participant (entries_in register) bic) → OnOk given (IsKnownOf self.new.known register sent) }
         ensures nothing { OnErr given (KnowsNothing self.new.known) }
     {
@@ -136,7 +130,7 @@ impl Course {
         account: AccountId,
         given: Result<Option<Bic>, Error>,
     ) -> Result<Option<Bic>, Fault>
-        ensures told { IsTold given result self.old.stage self.new.stage self.old.failures self.new.failures }
+        ensures told { IsTold given result self.old.stage self.new.stage }
         ensures known { (register : List Kept) (sent : List Sent) → IsKnownOf self.old.known register sent → IfOk given (λ owner. owner ≡ owner_of (entries_in register) account) → OnOk given (IsKnownOf self.new.known register sent) }
         ensures nothing { OnErr given (KnowsNothing self.new.known) }
     {
@@ -156,7 +150,7 @@ impl Course {
         isin: Isin,
         given: Result<Option<Kind>, Error>,
     ) -> Result<Option<Kind>, Fault>
-        ensures told { IsTold given result self.old.stage self.new.stage self.old.failures self.new.failures }
+        ensures told { IsTold given result self.old.stage self.new.stage }
         ensures known { (register : List Kept) (sent : List Sent) → IsKnownOf self.old.known register sent → IfOk given (λ kind. kind ≡ kind_of (entries_in register) isin) → OnOk given (IsKnownOf self.new.known register sent) }
         ensures nothing { OnErr given (KnowsNothing self.new.known) }
     {
@@ -176,7 +170,7 @@ impl Course {
         entry: Entry,
         given: Result<(), Error>,
     ) -> Result<(), Fault>
-        ensures told { IsTold given result self.old.stage self.new.stage self.old.failures self.new.failures }
+        ensures told { IsTold given result self.old.stage self.new.stage }
         ensures known { (register : List Kept) (sent : List Sent) (kept : Kept) → kept.entry ≡ entry → IsKnownOf self.old.known register sent → OnOk given (IsKnownOf self.new.known (register ++ kept ∷ []) sent) }
         ensures nothing { OnErr given (KnowsNothing self.new.known) }
     {
@@ -192,7 +186,7 @@ impl Course {
         count_to: Option<u64>,
         given: Result<(), Error>,
     ) -> Result<(), Fault>
-        ensures told { IsTold given result self.old.stage self.new.stage self.old.failures self.new.failures }
+        ensures told { IsTold given result self.old.stage self.new.stage }
         ensures known { (register : List Kept) (sent : List Sent) (message : Sent) → message.bic ≡ bic → IsKnownOf self.old.known register sent → OnOk given (IfSome count_to (λ n. n ≡ length (sent_to sent bic) + 1))
             → OnOk given (IsKnownOf self.new.known register (sent ++ message ∷ [])) }
         ensures nothing { OnErr given (KnowsNothing self.new.known) }

@@ -78,15 +78,14 @@ impl<S: Alter + Drop> SqlRegister<S> {
         requires limit { limit ≤ MOST_ENTRIES }
         requires unlimited { (state S.Store conn).step_limit ≡ None }
         requires open { HasCleanDisk (state S.Store conn) → IsTrue (state S.Store conn).is_open }
-        ensures empty { IfOk result (λ r. HasCleanDisk (state S.Store r.connection) → (shown (state S.Store r.connection) r.stage r.failures r.room).content ≡ empty_content) }
+        ensures empty { IfOk result (λ r. HasCleanDisk (state S.Store r.connection) → (shown (state S.Store r.connection) r.stage r.room).content ≡ empty_content) }
         ensures desk { IfOk result (λ r. HasCleanDisk (state S.Store r.connection) → Becomes (tables S.Store r.connection) empty_content) }
         ensures version { IfOk result (λ r. HasCleanDisk (state S.Store r.connection) → HasVersion (tables S.Store r.connection) (Some VERSION)) }
-        ensures sure { IfOk result (λ r. HasCleanDisk (state S.Store r.connection) → (shown (state S.Store r.connection) r.stage r.failures r.room).is_sure) }
+        ensures sure { IfOk result (λ r. HasCleanDisk (state S.Store r.connection) → (shown (state S.Store r.connection) r.stage r.room).is_sure) }
         ensures limit { IfOk result (λ r. r.room ≡ limit) }
         ensures stage { IfOk result (λ r. r.stage ≡ Stage.Idle) }
         ensures unmade { IfOk result (λ r. (tables S.Store conn).schema ≡ no_schema) }
         ensures outside { IfOk result (λ r. HasCleanDisk (state S.Store r.connection) → (state S.Store conn).in_transaction ≡ false) }
-        ensures no_failure { IfOk result (λ r. r.failures ≡ 0) }
         ensures settled { IfOk result (λ r. HasCleanDisk (state S.Store r.connection) → (state S.Store r.connection).now ≡ (state S.Store r.connection).committed) }
         ensures later { IfOk result (λ r. IsLater (state S.Store conn) (state S.Store r.connection)) }
         ensures closed { IfOk result (λ r. HasCleanDisk (state S.Store r.connection) → (state S.Store r.connection).in_transaction ≡ false) }
@@ -111,13 +110,11 @@ impl<S: Alter + Drop> SqlRegister<S> {
         ensures connection { result.connection ≡ conn }
         ensures limit { result.room ≡ limit }
         ensures stage { result.stage ≡ Stage.Idle }
-        ensures no_failure { result.failures ≡ 0 }
     {
         SqlRegister {
             conn,
             course: Course {
                 stage: Stage::Idle,
-                failures: 0,
                 known: Known::nothing(),
             },
             limit,
@@ -142,12 +139,11 @@ impl SqlRegister<MemStore> {
     /// A register in memory, which holds nothing, for at most `limit` entries, which are `MOST_ENTRIES` at most.
     pub fn in_memory(alloc: Global, limit: u64) -> Result<SqlRegister<MemStore>, Error>
         requires { limit ≤ MOST_ENTRIES }
-        ensures empty { IfOk result (λ r. (shown (state over_memory r.connection) r.stage r.failures r.room).content ≡ empty_content) }
-        ensures sure { IfOk result (λ r. (shown (state over_memory r.connection) r.stage r.failures r.room).is_sure) }
-        ensures honest { IfOk result (λ r. (shown (state over_memory r.connection) r.stage r.failures r.room).is_honest) }
+        ensures empty { IfOk result (λ r. (shown (state over_memory r.connection) r.stage r.room).content ≡ empty_content) }
+        ensures sure { IfOk result (λ r. (shown (state over_memory r.connection) r.stage r.room).is_sure) }
+        ensures honest { IfOk result (λ r. (shown (state over_memory r.connection) r.stage r.room).is_honest) }
         ensures limit { IfOk result (λ r. r.room ≡ limit) }
         ensures stage { IfOk result (λ r. r.stage ≡ Stage.Idle) }
-        ensures no_failure { IfOk result (λ r. r.failures ≡ 0) }
     {
         let conn = Connection::open_in_memory(alloc)?;
         match SqlRegister::new(conn, limit) {

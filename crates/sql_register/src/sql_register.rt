@@ -22,7 +22,7 @@ impl<S: Alter> Model for SqlRegister<S> {
 
     ghost coded = { kept_code S.code };
 
-    ghost view = { λ r. record { connection = r.conn; stage = r.course.stage; failures = r.course.failures; room = r.limit } };
+    ghost view = { λ r. record { connection = r.conn; stage = r.course.stage; room = r.limit } };
 
     ghost invariant = { λ r. IsKept (state S.Store r.conn) r.course.stage × IsBounded (state S.Store r.conn) r.limit × IsKnown (state S.Store r.conn) r.course.stage r.course.known };
 }

@@ -138,7 +138,7 @@ fn take_on<D: Register + Drop>(
     ensures untaken { OnErr result (desk.new ≡ desk.old) }
     ensures within { IfOk result (λ replies. All (λ reply. reply.index < length files.now) replies.items) }
     ensures blame { IfOk result (λ replies. IfCounted (D.view desk.new.register)
-        (AreBlamed (map (λ reply. reply.answer) replies.items) (D.view desk.old.register).failures (D.view desk.new.register).failures)) }
+        (AreBlamed (map (λ reply. reply.answer) replies.items) (D.view desk.old.register).device.failures (D.view desk.new.register).device.failures)) }
     ensures memory { IfErr result (λ fault. fault ≡ Fault.Memory) }
     ensures later { IsLater (D.view desk.old.register) (D.view desk.new.register) }
 {

@@ -4,12 +4,12 @@ ghost use Rattle.std.specs.Io.KnownBytes.{Appends};
 ghost use Rattle.desk_rules.specs.Books.{Books};
 ghost use Rattle.desk_rules.specs.declared.limits.TheConstants.{MOST_ENTRIES};
 ghost use Rattle.desk_engine.specs.Applied.{Keeps};
-ghost use Rattle.desk_register.specs.Ends.{HaveRead, at_register};
+ghost use Rattle.desk_register.specs.Ends.{at_register};
 ghost use Rattle.desk_engine.specs.Ready.{IsReady, KeepsFormed};
 ghost use Rattle.desk_book.specs.RowByRow.{WritesText};
 ghost use Rattle.memory_register.specs.ListsView.{view_of_lists};
 ghost use Rattle.desk_opening.specs.Opened.{IsReadyFor, view_of_both};
-ghost use Rattle.desk_register.specs.View.{IfTrusted};
+ghost use Rattle.desk_register.specs.View.{IfTrusted, IsRead};
 ghost use Rattle.desk_register.specs.declared.register.Stage.TheVariants.{Idle};
 ghost use Rattle.sqlite.specs.Held.{state};
 ghost use Rattle.desk.specs.Left.{TablesSay};
@@ -91,10 +91,10 @@ pub fn show_on_both<S: Alter + Drop, W: Sink>(
     format: Format,
     writer: &mut W,
 ) -> (io::Result<Status>, Connection<S>)
-    requires { IsReadyFor MOST_ENTRIES (view_of_both both) }
-    ensures told { (books : Books) → KeptBy (view_of_both both) books
+    requires { IsReadyFor MOST_ENTRIES (view_of_both S.Store both) }
+    ensures told { (books : Books) → KeptBy (view_of_both S.Store both) books
         → IfOk result.0 (λ status. IsOverviewFrom format shown books status (Appends (W.contents writer.old) (W.contents writer.new))) }
-    ensures left { (books : Books) → KeptBy (view_of_both both) books → TablesSay (state S.Store result.1) books }
+    ensures left { (books : Books) → KeptBy (view_of_both S.Store both) books → TablesSay (state S.Store result.1) books }
     ensures failed { OnErr result.0 (W.may_fail ≡ true) }
 {
     let mut both = both;
@@ -132,7 +132,7 @@ fn write_shown<R: Register, W: Sink>(
     requires ready { IsReady false (R.view register.old) }
     ensures written { format ≡ Format.Json → (books : Books) → IfTrusted (R.view register.old) (R.view register.new) (Keeps (R.view register.old).room books (R.view register.old).content
         → WritesText (IsShownText books (R.view register.old).content shown) result (W.contents writer.old) (W.contents writer.new)) }
-    ensures read { HaveRead (at_register result) (R.view register.old) (R.view register.new) }
+    ensures read { IsRead (at_register result) (R.view register.old) (R.view register.new) }
     ensures unwritten { result ≡ Err (WalkFault.Sink SinkFault.Write) → W.may_fail ≡ true }
 {
     match shown {

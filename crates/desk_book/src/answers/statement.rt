@@ -5,7 +5,7 @@ ghost use Rattle.desk_rules.specs.Questions.{refused_question};
 ghost use Rattle.desk_rules.specs.Content.{history_of};
 ghost use Rattle.desk_rules.specs.Facts.{is_owner, owner_of};
 ghost use Rattle.desk_register.specs.View.{IfTrusted, IsRead};
-ghost use Rattle.desk_register.specs.Ends.{HaveRead, at_register};
+ghost use Rattle.desk_register.specs.Ends.{at_register};
 ghost use Rattle.desk_engine.specs.Applied.{Keeps};
 ghost use Rattle.desk_engine.specs.Ready.{IsReady};
 ghost use Rattle.desk_book.specs.RowByRow.{told_of_walk};
@@ -36,7 +36,7 @@ pub fn write_holdings<R: Register, W: Sink>(
     requires ready { IsReady false (R.view register.old) }
     ensures written { (books : Books) → IfTrusted (R.view register.old) (R.view register.new) (Keeps (R.view register.old).room books (R.view register.old).content
         → Writes (TellsHoldings books owner account) (told_of_walk result) (W.contents writer.old) (W.contents writer.new)) }
-    ensures read { HaveRead (at_register result) (R.view register.old) (R.view register.new) }
+    ensures read { IsRead (at_register result) (R.view register.old) (R.view register.new) }
     ensures unwritten { result ≡ Err (WalkFault.Sink SinkFault.Write) → W.may_fail ≡ true }
 {
     let is_participant = register.participant(alloc, owner)?;
@@ -57,7 +57,7 @@ fn write_own_holdings<R: Register, W: Sink>(
     requires ready { IsReady false (R.view register.old) }
     ensures written { (books : Books) → IfTrusted (R.view register.old) (R.view register.new) (Keeps (R.view register.old).room books (R.view register.old).content
         → Writes (TellsOwner books owner account) (told_of_walk result) (W.contents writer.old) (W.contents writer.new)) }
-    ensures read { HaveRead (at_register result) (R.view register.old) (R.view register.new) }
+    ensures read { IsRead (at_register result) (R.view register.old) (R.view register.new) }
     ensures unwritten { result ≡ Err (WalkFault.Sink SinkFault.Write) → W.may_fail ≡ true }
 {
     let Some(account) = account else {
@@ -97,7 +97,7 @@ fn write_account<R: Register, W: Sink>(
     requires ready { IsReady false (R.view register.old) }
     ensures written { (books : Books) → IfTrusted (R.view register.old) (R.view register.new) (Keeps (R.view register.old).room books (R.view register.old).content
         → Writes (IsStatement books account) (told_of_walk result) (W.contents writer.old) (W.contents writer.new)) }
-    ensures read { HaveRead (at_register result) (R.view register.old) (R.view register.new) }
+    ensures read { IsRead (at_register result) (R.view register.old) (R.view register.new) }
     ensures unwritten { result ≡ Err (WalkFault.Sink SinkFault.Write) → W.may_fail ≡ true }
 {
     write_statement(alloc, register, account, writer)?;

@@ -4,7 +4,7 @@ ghost use Rattle.desk_rules.specs.Books.{Books};
 ghost use Rattle.desk_rules.specs.Content.{history_of};
 ghost use Rattle.desk_rules.specs.Facts.{kind_of};
 ghost use Rattle.desk_register.specs.View.{IfTrusted, IsRead};
-ghost use Rattle.desk_register.specs.Ends.{HaveRead, at_register};
+ghost use Rattle.desk_register.specs.Ends.{at_register};
 ghost use Rattle.desk_engine.specs.Applied.{Keeps};
 ghost use Rattle.desk_book.specs.Answered.{IsToldSums};
 ghost use Rattle.desk_book.specs.RowByRow.{IsCashText, IsSecuritiesText, WritesCurrency, WritesSecurity, WritesText, told_of_walk};
@@ -30,7 +30,7 @@ pub fn write_sums<R: Register, W: Sink>(
     requires stage { (R.view register.old).stage ≡ Stage.Idle }
     ensures written { (books : Books) → IfTrusted (R.view register.old) (R.view register.new) (Keeps (R.view register.old).room books (R.view register.old).content
         → Writes (λ reply. IsToldSums books reply books) (told_of_walk result) (W.contents writer.old) (W.contents writer.new)) }
-    ensures read { HaveRead (at_register result) (R.view register.old) (R.view register.new) }
+    ensures read { IsRead (at_register result) (R.view register.old) (R.view register.new) }
     ensures unwritten { result ≡ Err (WalkFault.Sink SinkFault.Write) → W.may_fail ≡ true }
 {
     write_text(writer, b"{\"cash\":[")?;
@@ -53,7 +53,7 @@ fn write_currencies<R: Register, W: Sink>(
     requires stage { (R.view register.old).stage ≡ Stage.Idle }
     ensures written { (books : Books) → IfTrusted (R.view register.old) (R.view register.new) (Keeps (R.view register.old).room books (R.view register.old).content
         → WritesText (IsCashText (R.view register.old).content) result (W.contents writer.old) (W.contents writer.new)) }
-    ensures read { HaveRead (at_register result) (R.view register.old) (R.view register.new) }
+    ensures read { IsRead (at_register result) (R.view register.old) (R.view register.new) }
     ensures unwritten { result ≡ Err (WalkFault.Sink SinkFault.Write) → W.may_fail ≡ true }
 {
     let mut is_later = false;
@@ -73,7 +73,7 @@ fn write_currency<R: Register, W: Sink>(
 ) -> Result<bool, WalkFault>
     requires stage { (R.view register.old).stage ≡ Stage.Idle }
     ensures written { IfTrusted (R.view register.old) (R.view register.new) (WritesCurrency (R.view register.old).content ccy is_later result (W.contents writer.old) (W.contents writer.new)) }
-    ensures read { HaveRead (at_register result) (R.view register.old) (R.view register.new) }
+    ensures read { IsRead (at_register result) (R.view register.old) (R.view register.new) }
     ensures unwritten { result ≡ Err (WalkFault.Sink SinkFault.Write) → W.may_fail ≡ true }
 {
     let Some(total) = cash_total(alloc, register, ccy)? else {
@@ -109,7 +109,7 @@ fn write_securities<R: Register, W: Sink>(
     requires stage { (R.view register.old).stage ≡ Stage.Idle }
     ensures written { (books : Books) → IfTrusted (R.view register.old) (R.view register.new) (Keeps (R.view register.old).room books (R.view register.old).content
         → WritesText (IsSecuritiesText (R.view register.old).content) result (W.contents writer.old) (W.contents writer.new)) }
-    ensures read { HaveRead (at_register result) (R.view register.old) (R.view register.new) }
+    ensures read { IsRead (at_register result) (R.view register.old) (R.view register.new) }
     ensures unwritten { result ≡ Err (WalkFault.Sink SinkFault.Write) → W.may_fail ≡ true }
 {
     let count = register.count(alloc)?;
@@ -135,7 +135,7 @@ fn write_security<R: Register, W: Sink>(
     requires stage { (R.view register.old).stage ≡ Stage.Idle }
     ensures written { IfTrusted (R.view register.old) (R.view register.new) (is_some (kind_of (history_of (R.view register.old).content) isin) ≡ true
         → WritesSecurity (R.view register.old).content isin is_later result (W.contents writer.old) (W.contents writer.new)) }
-    ensures read { HaveRead (at_register result) (R.view register.old) (R.view register.new) }
+    ensures read { IsRead (at_register result) (R.view register.old) (R.view register.new) }
     ensures unwritten { result ≡ Err (WalkFault.Sink SinkFault.Write) → W.may_fail ≡ true }
 {
     let total = security_total(alloc, register, isin)?;

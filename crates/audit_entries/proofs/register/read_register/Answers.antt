@@ -31,8 +31,9 @@ loop-before-preserved g c =
       later = record {
         honest = λ honest. i.later.honest (e.later.honest honest);
         sure = λ honest sure. i.later.sure (e.later.honest honest) (e.later.sure honest sure);
-        failures = (let a = i.later.failures in let b = e.later.failures in omega arith);
         room = e.later.room ∙ i.later.room;
+        device_honest = λ honest. i.later.device_honest (e.later.device_honest honest);
+        failures = (let a = i.later.failures in let b = e.later.failures in omega arith);
       };
       holds = λ honest sure. formed_again v1.room v0.room v2.content i.later.room (e.holds honest (i.done.sure (e.later.honest honest) sure) c.in-Taken.is);
       rows = λ clean is_open has honest sure formed.

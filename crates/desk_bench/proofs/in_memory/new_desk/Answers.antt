@@ -3,4 +3,4 @@ use Rattle.desk_book.proofs.FormedLemmas.{empty_formed}
 use Rattle.desk_bench.proofs.in_memory.new_desk.Goals as goal
 
 pub new-requires-2 : goal.new-requires-2
-new-requires-2 c = record { stage = λ is. c.new.ensures.stage; sure = λ is honest. tt; books = λ is honest. (no_books, empty_formed _ _ c.new.ensures.empty) }
+new-requires-2 c = record { stage = λ is. c.new.ensures.stage; sure = λ is honest. tt; device = λ is honest. tt; books = λ is honest. (no_books, empty_formed _ _ c.new.ensures.empty) }

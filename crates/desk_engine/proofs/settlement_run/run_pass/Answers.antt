@@ -32,7 +32,7 @@ returns-clause-step g c =
     let v = g.R.Register.view c.pairs.register in
     let i = c.pairs.invariant in
     let all : c.args.number ≤ c.pairs.tried = omega arith in
-    gives_up {X = Ran} Storage v0 v c.requires.stage i.stays i.later refl
+    gives_up {X = Ran} Storage v0 v c.requires.stage i.stays i.later
     (trying_ends_so v0.room v0 v c.args.day _ c.pairs.place c.pairs.tried c.pairs.settled i c.args.number c.args.before refl c.requires.fits c.requires.number all)
 
 pub returns-in_err-ran-in-None-clause-step : goal.returns-in_err-ran-in-None-clause-step
@@ -47,7 +47,7 @@ returns-in_err-ran-in-None-clause-step g c =
     let before : c.begun-begun.result.settled ≡ c.args.before.settled = ap (λ (r : Ran). r.settled) c.begun-begun.ensures in
     let many : c.args.number ≤ c.args.before.settled + c.pairs.settled = (let m = c.in_err-ran-in-None.ensures.many in omega arith) in
     rw is
-    (gives_up {X = Ran} c.in_err-ran-in-None.field-0.0 v0 w c.requires.stage (stays_then v0 v w i.stays i.later t.later t.ok) (later_then v0 v w i.stays i.later t.later) c.in_err-ran-in-None.ensures.storage
+    (gives_up {X = Ran} c.in_err-ran-in-None.field-0.0 v0 w c.requires.stage (stays_then v0 v w i.stays i.later t.later t.ok) (later_then v0 v w i.stays i.later t.later)
     (λ honest sure. trying_settles_few v0.room v0 v c.args.day _ c.pairs.place c.pairs.tried c.pairs.settled i c.args.number c.args.before refl c.requires.fits c.requires.number many (t.later.honest honest) sure))
 
 pub returns-in-None-clause-ran : goal.returns-in-None-clause-ran

@@ -41,5 +41,5 @@ returns-clause-step g c =
     let v = g.R.Register.view c.passes.register in
     let i = c.passes.invariant in
     let all : c.args.number ≤ c.passes._begun = omega arith in
-    gives_up Storage v0 v c.requires.stage i.stays i.later refl
+    gives_up Storage v0 v c.requires.stage i.stays i.later
     (passing_ends_so v0.room v0 v c.args.day c.args.rule c.passes._begun c.args.number c.passes.ran refl i c.requires.tables c.requires.number all)

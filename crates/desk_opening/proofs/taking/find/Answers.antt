@@ -42,10 +42,10 @@ returns-in-Ok-Whole-clause-opened g c =
     (let stands = stood clean in subst (λ r. IsAudited s0.now r content) c.new-memory.ensures.limit (a.whole clean stands.opens.is_open tt tt (order_now s0 stands) (omega (arith, c.new-memory.ensures.limit, c.requires.limit)) c.in-Ok-Whole.field-0-is)) in
     let same : HasCleanDisk s1 → IsSame s0 s1 = λ clean. a.look.ok clean (stood clean).opens.is_open (audited clean).becomes.desk.schema in
     let both = c.new in
-    opened_as g.S.Store c.args.limit both.result c.audit.new.register c.over.result both.ensures.memory both.ensures.tables both.ensures.stage both.ensures.no_failure
+    opened_as g.S.Store c.args.limit both.result c.audit.new.register c.over.result both.ensures.memory both.ensures.tables both.ensures.stage
     (a.later.room ∙ c.new-memory.ensures.limit)
     (subst (λ r. HoldsFormed r content) c.new-memory.ensures.limit (a.holds tt tt c.in-Ok-Whole.field-0-is))
-    (record { stage = c.over.ensures.stage; failures = c.over.ensures.no_failure; room = c.over.ensures.limit })
+    (record { stage = c.over.ensures.stage; room = c.over.ensures.limit })
     (subst (λ (h : Held g.row.S.Denot). HasCleanDisk (state g.S.Store h) → KeepAudited (state g.S.Store h) c.args.limit content) (sym c.over.ensures.connection)
     (λ clean. keeps s0 s1 (stood clean) (same clean) c.args.limit content (audited clean)))
 

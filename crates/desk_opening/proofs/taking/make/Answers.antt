@@ -16,9 +16,9 @@ returns-in-Ok-clause-opened g c =
     let both = c.new-in-Ok-2 in
     let t = c.in-Ok.ensures in
     let content = (view_of_lists memory).content in
-    opened_as g.S.Store c.args.limit both.result memory tables both.ensures.memory both.ensures.tables both.ensures.stage both.ensures.no_failure c.new-in-Ok.ensures.limit
+    opened_as g.S.Store c.args.limit both.result memory tables both.ensures.memory both.ensures.tables both.ensures.stage c.new-in-Ok.ensures.limit
     (nothing_held c.args.limit content c.new-in-Ok.ensures.empty)
-    (record { stage = t.stage; failures = t.no_failure; room = t.limit })
+    (record { stage = t.stage; room = t.limit })
     (λ clean. record {
       is_open = t.sure clean;
       settled = t.settled clean;

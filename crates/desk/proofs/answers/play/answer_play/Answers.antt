@@ -9,7 +9,7 @@ use Rattle.desk.proofs.PlayLemmas.{limit_is, new_keeps, ok_then, told, told_play
 use Rattle.desk.proofs.answers.play.answer_play.Goals as goal
 
 pub new-desk-requires : goal.new-desk-requires
-new-desk-requires g c = record { stage = λ is. c.new.ensures.stage; sure = λ is honest. tt; books = λ is honest. (no_books, empty_formed _ _ c.new.ensures.empty) }
+new-desk-requires g c = record { stage = λ is. c.new.ensures.stage; sure = λ is honest. tt; device = λ is honest. tt; books = λ is honest. (no_books, empty_formed _ _ c.new.ensures.empty) }
 
 pub returns-clause-told : goal.returns-clause-told
 returns-clause-told g c =
@@ -26,5 +26,5 @@ returns-clause-told g c =
     (ok_then c.play.result p.played (λ played unwritten.
     where_played contents c.args.writer.now c.play.new.writer c.tell_played.new.writer (λ after. IsPlayAnswer given U g.R.Source.may_fail exit.Done (Appends (contents c.args.writer.now) after)) unwritten
     (told given U _ _ _ c.new-desk.result.is_closed c.play.new.self.is_closed (view_of_lists held) (view_of_lists c.play.new.self.register) (limit_is made held same c.new.ensures.limit) p.left.later.room c.new-desk.ensures.open
-    (p.left.in_memory refl c.new-desk.ensures.open) refl (lit< tt) tt (λ is. new_keeps made held same c.new.ensures.empty) played)))
+    (p.left.in_memory refl c.new-desk.ensures.open) refl (lit< tt) tt tt (λ is. new_keeps made held same c.new.ensures.empty) played)))
     p.unread p.too_long p.memory c.tell_played.ensures.told

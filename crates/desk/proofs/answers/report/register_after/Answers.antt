@@ -10,7 +10,7 @@ use Rattle.desk.proofs.PlayLemmas.{limit_is, new_keeps}
 use Rattle.desk.proofs.answers.report.register_after.Goals as goal
 
 pub new-desk-requires : goal.new-desk-requires
-new-desk-requires g c = record { stage = λ is. c.new.ensures.stage; sure = λ is honest. tt; books = λ is honest. (no_books, empty_formed _ _ c.new.ensures.empty) }
+new-desk-requires g c = record { stage = λ is. c.new.ensures.stage; sure = λ is honest. tt; device = λ is honest. tt; books = λ is honest. (no_books, empty_formed _ _ c.new.ensures.empty) }
 
 pub returns-in-Ok-clause-after : goal.returns-in-Ok-clause-after
 returns-in-Ok-clause-after g c =
@@ -23,7 +23,7 @@ returns-in-Ok-clause-after g c =
     let ready : IsReady now.is_closed (view_of_lists now.register) = subst (λ (r : ListRegister). IsReady now.is_closed (view_of_lists r)) c.into_register.ensures.register c.into_register.ensures.ready in
     subst (λ (r : ListRegister). IsAfterScript given (view_of_lists r)) (sym c.into_register.ensures.register)
     (after_script given _ _ c.new-desk.result.is_closed now.is_closed (view_of_lists held) (view_of_lists now.register) (limit_is made held same c.new.ensures.limit) p.left.later.room c.new-desk.ensures.open (p.left.in_memory refl c.new-desk.ensures.open) refl
-    (lit< tt) tt (λ is. new_keeps made held same c.new.ensures.empty) ready c.in-Ok.ensures.played)
+    (lit< tt) tt tt (λ is. new_keeps made held same c.new.ensures.empty) ready c.in-Ok.ensures.played)
 
 pub returns-in-Err-clause-none : goal.returns-in-Err-clause-none
 returns-in-Err-clause-none g c =

@@ -14,7 +14,7 @@ invariant-requests g l = record {
   count : vec_len l.answers ≡ l.request-index;
   left : LeavesDesk g.R.Register.view g.R.Register.in_memory l.fn.self l.self;
   closed : l.fn.self.is_closed ≡ true → All (λ answer. says_closed answer ≡ true) l.answers.items;
-  blame : IfCounted (g.R.Register.view l.self.register) (AreBlamed l.answers.items (g.R.Register.view l.fn.self.register).failures (g.R.Register.view l.self.register).failures);
+  blame : IfCounted (g.R.Register.view l.self.register) (AreBlamed l.answers.items (g.R.Register.view l.fn.self.register).device.failures (g.R.Register.view l.self.register).device.failures);
   in_turn : (books : Books) → (g.R.Register.view l.self.register).is_honest → Holds l.fn.self.is_closed (g.R.Register.view l.fn.self.register) books
       → (last : Books) × AnsweredInTurn (g.R.Register.view l.fn.self.register).room l.fn.self.is_closed books (map asked_by (take l.request-index l.requests)) l.answers.items l.self.is_closed last
       × Holds l.self.is_closed (g.R.Register.view l.self.register) last;

@@ -21,5 +21,5 @@ returns-clause-commits c = record {
   stage = refl;
   sure = λ honest sure. tt;
   content = λ honest sure. kept_content (listed c.args.self.now.lists) (listed c.keep_all.new.lists) c.keep_all.ensures.rest c.keep_all.ensures.amounts;
-  failures = λ honest few. refl;
+  device = λ honest sure. sure;
 }

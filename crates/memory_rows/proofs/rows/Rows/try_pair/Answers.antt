@@ -14,7 +14,7 @@ pub try_settle-requires-clause-sound : goal.try_settle-requires-clause-sound
 try_settle-requires-clause-sound c = c.args.self.now.sound (begun_goes c.args.self.now.stage c.requires.stage)
 
 pub returns-in-Ok-clause-change : goal.returns-in-Ok-clause-change
-returns-in-Ok-clause-change c = change_ok c.in-Ok.tried _ _ (record { stage = refl; sure = λ h s. tt; mark = λ h s. ap content_in c.in-Ok.ensures.before; failures = λ h few. refl }) (record { honest = λ h. h; sure = λ h s. s; failures = omega arith; room = refl })
+returns-in-Ok-clause-change c = change_ok c.in-Ok.tried _ _ (record { stage = refl; sure = λ h s. tt; mark = λ h s. ap content_in c.in-Ok.ensures.before; device = λ h s. s }) (record { honest = λ h. h; sure = λ h s. s; room = refl; device_honest = λ h. h; failures = omega arith })
 
 pub returns-in-Err-clause-change : goal.returns-in-Err-clause-change
 returns-in-Err-clause-change c = record {
@@ -24,6 +24,6 @@ returns-in-Err-clause-change c = record {
     mark = λ h s. ap content_in c.in-Err.ensures.before;
     content = λ h s idle. (let clash : Begun ≡ Idle = sym c.requires.stage ∙ idle in absurd (cc));
   };
-  later = record { honest = λ h. h; sure = λ h s. s; failures = omega arith; room = refl };
-  blame = blames_memory Memory _ _ refl (λ honest few. refl);
+  later = record { honest = λ h. h; sure = λ h s. s; room = refl; device_honest = λ h. h; failures = omega arith };
+  blame = blames_memory Memory _ _ refl;
 }

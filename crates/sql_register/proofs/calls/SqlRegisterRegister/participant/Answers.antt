@@ -14,18 +14,18 @@ use Rattle.sql_register.proofs.calls.SqlRegisterRegister.participant.Goals as go
 
 pub returns-clause-read : goal.returns-clause-read
 returns-clause-read g c =
-    subst (λ (k : Kept _). IsRead c.told_participant.result (shown (state g.S.Store k.connection) k.stage k.failures k.room) (shown (state g.S.Store c.participant-found.new.conn) c.told_participant.new.self.stage c.told_participant.new.self.failures c.self.inside.limit)) c.self.view_is
-    (read_told (state g.S.Store c.self.inside.conn) (state g.S.Store c.participant-found.new.conn) c.self.inside.course.stage c.told_participant.new.self.stage c.self.inside.course.failures c.told_participant.new.self.failures c.self.inside.limit
-    c.participant-found.result c.told_participant.result c.self.invariant.0 c.participant-found.ensures.look c.told_participant.ensures.told)
+    subst (λ (k : Kept _). IsRead c.told_participant.result (shown (state g.S.Store k.connection) k.stage k.room) (shown (state g.S.Store c.participant-found.new.conn) c.told_participant.new.self.stage c.self.inside.limit)) c.self.view_is
+    (read_told (state g.S.Store c.self.inside.conn) (state g.S.Store c.participant-found.new.conn) c.self.inside.course.stage c.told_participant.new.self.stage c.self.inside.limit
+    c.participant-found.result c.told_participant.result c.self.invariant.0 c.self.invariant.1.unlimited c.participant-found.ensures.look (λ clean is_open has desk. c.participant-found.ensures.blame clean is_open has (content_in (state g.S.Store c.self.inside.conn).now).register desk.entries) c.told_participant.ensures.told)
 
 pub returns-clause-value : goal.returns-clause-value
 returns-clause-value g c =
     subst (λ (k : Kept _). HasCleanDisk (state g.S.Store c.participant-found.new.conn) → IsTrue (state g.S.Store k.connection).is_open → k.stage ≢ Failed → IfOk c.told_participant.result (λ r. r ≡ is_participant (history_of (content_in (state g.S.Store k.connection).now)) c.args.bic)) c.self.view_is
-    (value_found (state g.S.Store c.self.inside.conn) (state g.S.Store c.participant-found.new.conn) c.self.inside.course.stage c.told_participant.new.self.stage c.self.inside.course.failures c.told_participant.new.self.failures c.self.inside.limit c.self.inside.course.known c.participant-found.result c.told_participant.result (λ register sent r. r ≡ is_participant (entries_in register) c.args.bic) c.self.invariant c.participant-found.ensures.look c.told_participant.ensures.told
+    (value_found (state g.S.Store c.self.inside.conn) (state g.S.Store c.participant-found.new.conn) c.self.inside.course.stage c.told_participant.new.self.stage c.self.inside.limit c.self.inside.course.known c.participant-found.result c.told_participant.result (λ register sent r. r ≡ is_participant (entries_in register) c.args.bic) c.self.invariant c.participant-found.ensures.look c.told_participant.ensures.told
     (λ clean is_open has desk known. c.participant-found.ensures.value clean is_open has _ desk.entries known.facts))
 
 pub invariant_of-self : goal.invariant_of-self
 invariant_of-self g c =
-    holds_found (state g.S.Store c.self.inside.conn) (state g.S.Store c.participant-found.new.conn) c.self.inside.course.stage c.told_participant.new.self.stage c.self.inside.course.failures c.told_participant.new.self.failures c.self.inside.limit c.self.inside.course.known c.participant-found.result c.told_participant.result (λ register sent r. r ≡ is_participant (entries_in register) c.args.bic) c.self.invariant c.participant-found.ensures.look c.told_participant.ensures.told
+    holds_found (state g.S.Store c.self.inside.conn) (state g.S.Store c.participant-found.new.conn) c.self.inside.course.stage c.told_participant.new.self.stage c.self.inside.limit c.self.inside.course.known c.participant-found.result c.told_participant.result (λ register sent r. r ≡ is_participant (entries_in register) c.args.bic) c.self.invariant c.participant-found.ensures.look c.told_participant.ensures.told
     (λ clean is_open has desk known. c.participant-found.ensures.value clean is_open has _ desk.entries known.facts)
     c.told_participant.new.self.known c.told_participant.ensures.known c.told_participant.ensures.nothing
