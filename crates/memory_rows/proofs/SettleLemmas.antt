@@ -4,16 +4,22 @@ use Rattle.desk_codes.specs.declared.currency.Ccy.{Ccy}
 use Rattle.desk_msg.specs.declared.instruction.Cash.{Cash as Amount}
 use Rattle.desk_rules.specs.declared.answers.reply.Kept.{Kept}
 use Rattle.desk_rules.specs.declared.answers.reply.Sent.{Sent}
+use Rattle.desk_rules.specs.declared.history.pair.Lack.{Lack}
+use Rattle.desk_rules.specs.declared.history.pair.Lack.TheVariants.{Money, Securities}
 use Rattle.desk_rules.specs.declared.history.standing.Standing.{Standing}
+use Rattle.desk_rules.specs.declared.history.standing.State.TheVariants.{Matched}
+use Rattle.desk_rules.specs.Standing.{reason_of_lack}
 use Rattle.desk_rules.specs.declared.history.entry.Instructed.{Instructed}
 use Rattle.desk_rules.specs.History.{instruction_at}
 use Rattle.desk_rules.specs.Content.{CashBalances, Content, history_of}
 use Rattle.desk_register.specs.declared.outcome.Outcome.{Outcome}
+use Rattle.desk_register.specs.declared.outcome.Outcome.TheVariants.{Lacks}
 use Rattle.desk_register.specs.declared.told.KnownPair.{KnownPair}
-use Rattle.desk_register.specs.Changes.{CanSettle, IsPairAt, SidesFit, TriesPair, TriesSides, delivered, paid_over}
+use Rattle.desk_register.specs.Changes.{CanSettle, IsPairAt, SidesFit, TriesPair, TriesSides, delivered, paid_over, standing_both}
 use Rattle.desk_register.specs.Told.{IsKnownAt}
 use Rattle.memory_rows.specs.declared.balance_key.BalanceKey.{BalanceKey}
 use Rattle.memory_rows.specs.declared.balance_key.BalanceKey.TheVariants.{Cash, Outstanding, Paid, Position}
+use Rattle.memory_rows.specs.Lacks.{IsLackOf}
 use Rattle.memory_rows.specs.Lists.{Listed, TotalsAreKept, balance_in, content_in, standing_in}
 use Rattle.memory_rows.specs.BalanceKeys.{is_key}
 use Rattle.memory_rows.specs.Moves.{SameBooks, SameEntries, SameTotals, with_less, moved_between, paid_between}
@@ -83,8 +89,16 @@ module _ (old stood moved new : Listed) (t : Transfer) (books : SameBooks old st
 -- The pair of a number that can settle, whose mate was found.
 
 module _ (content : Content) (n day m : ℕ) (can : CanSettle content n day) (has_mate : (content.standing n).mate ≡ Some m) where
-  found_pair : IsPairAt content n m can.earlier can.later
+  pub found_pair : IsPairAt content n m can.earlier can.later
   found_pair = let same : can.mate ≡ m = let both = sym can.pair.has_mate ∙ has_mate in cc in subst (λ k. IsPairAt content n k can.earlier can.later) same can.pair
+
+  pub two_numbers : m < n
+  two_numbers = let same : can.mate ≡ m = let both = sym can.pair.has_mate ∙ has_mate in cc in subst (λ k. k < n) same can.two
+
+  -- what it lacks, it waits for
+  pub lacks_pair : (lack : Lack) (new : Content) → IsLackOf content can.earlier can.later (Some lack) → new ≡ record content { standing = standing_both content.standing m n (Matched (reason_of_lack (Some lack))) } → TriesPair content n (Lacks lack) new
+  lacks_pair Securities new lacks is = record { mate = m; earlier = can.earlier; later = can.later; pair = found_pair; ends = (lacks, is) }
+  lacks_pair Money new lacks is = record { mate = m; earlier = can.earlier; later = can.later; pair = found_pair; ends = (lacks.0, lacks.1, is) }
 
   pub known_pair : (first second : Instructed) × (instruction_at (history_of content) m ≡ Some first) × (instruction_at (history_of content) n ≡ Some second)
   known_pair = (can.earlier, can.later, found_pair.is_earlier, found_pair.is_later)
@@ -101,6 +115,9 @@ module _ (content : Content) (n day m : ℕ) (can : CanSettle content n day) (ha
 
     pub pair_fits : SidesFit content pair.earlier pair.later
     pair_fits = rw same_pair can.fits
+
+    pub pair_covered : IsLackOf content can.earlier can.later None → IsLackOf content pair.earlier pair.later None
+    pair_covered covered = rw same_pair covered
 
     pub pair_known : IsKnownAt content n pair
     pair_known = rw same_pair (record { number = refl; is_pair = found_pair })

@@ -1,6 +1,7 @@
 pub mod BalanceKeys
 pub mod Balanced
 pub mod FollowOn
+pub mod Lacks
 pub mod Lists
 pub mod Moves
 pub mod Named

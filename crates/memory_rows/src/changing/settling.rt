@@ -1,7 +1,13 @@
 //! A pair, settled in the lists.
 ghost use Rattle.std.specs.Prelude.{◌≡◌, ◌<◌, ◌≤◌, ◌+◌, ◌^◌, ◌↔◌, ℕ, Some, None, false, length, IfOk, IsTrue, OnOk, true};
-ghost use Rattle.desk_register.specs.Changes.{CanSettle, FitsCash, HasCash, LacksCash, SidesFit, TriesPair, TriesSides, standing_both};
+ghost use Rattle.desk_register.specs.Changes.{CanSettle, FitsCash, HasCash, LacksCash, SidesFit, TriesPair, TriesSides, delivering_side, receiving_side, standing_both};
+ghost use Rattle.desk_rules.specs.Content.{history_of};
+ghost use Rattle.desk_rules.specs.History.{instruction_at};
+ghost use Rattle.desk_rules.specs.Standing.{reason_of_lack};
+ghost use Rattle.desk_rules.specs.declared.history.entry.Instructed.{Instructed as InstructedValue};
 ghost use Rattle.memory_rows.specs.Balanced.{IsSound};
+ghost use Rattle.memory_rows.specs.Lacks.{IsLackOf};
+ghost use Rattle.memory_rows.specs.Transfers.{as_instructed};
 ghost use Rattle.memory_rows.specs.Lists.{balance_in, content_in, listed, standing_in, undone};
 ghost use Rattle.memory_rows.specs.Moves.{with_less, with_more, SameBooks, SameEntries, SameTotals, moved_between, paid_between};
 
@@ -10,9 +16,9 @@ use crate::balances::{add_to, balance_of, take_from};
 use crate::changing::standings::stand_both;
 use crate::changing::tried::{Tried, pair_of};
 use crate::lists::{Change, Lists};
-use crate::looking::by_number::standing;
-use desk_codes::Bic;
-use desk_msg::{Cash, Reason};
+use crate::looking::by_number::{kept_instruction, standing};
+use desk_codes::{AccountId, Bic};
+use desk_msg::{Cash, Instruction, Reason};
 use desk_register::{KnownPair, Outcome};
 use desk_rules::{Lack, Standing, State};
 use std::alloc::AllocError;
@@ -105,17 +111,80 @@ fn wait(
     stand_both(lists, changes, mate, number, State::Matched(reason))
 }
 
-/// Tries a pair.
+/// The account that a pair delivers from.
+fn delivered_from(earlier: (&Bic, &Instruction), later: (&Bic, &Instruction)) -> AccountId
+    ensures { result ≡ (delivering_side (as_instructed earlier.entry.0.now earlier.entry.1.now) (as_instructed later.entry.0.now later.entry.1.now)).instruction.account }
+{
+    if earlier.1.mt.is_delivery() {
+        return earlier.1.account;
+    }
+    later.1.account
+}
+
+/// The participant that receives, and pays.
+fn receiver_of(earlier: (&Bic, &Instruction), later: (&Bic, &Instruction)) -> Bic
+    ensures { result ≡ (receiving_side (as_instructed earlier.entry.0.now earlier.entry.1.now) (as_instructed later.entry.0.now later.entry.1.now)).sender }
+{
+    if earlier.1.mt.is_delivery() {
+        return *later.0;
+    }
+    *earlier.0
+}
+
+/// What a pair of two instructions lacks, if anything.
+fn lack_between(
+    lists: &Lists,
+    earlier: (&Bic, &Instruction),
+    later: (&Bic, &Instruction),
+) -> Option<Lack>
+    ensures { IsLackOf (content_in (listed lists.now)) (as_instructed earlier.entry.0.now earlier.entry.1.now) (as_instructed later.entry.0.now later.entry.1.now) result }
+{
+    let given = BalanceKey::Position {
+        account: delivered_from(earlier, later),
+        isin: later.1.isin,
+    };
+    if balance_of(lists, &given) < later.1.quantity {
+        return Some(Lack::Securities);
+    }
+    if lacks_cash(lists, receiver_of(earlier, later), later.1.cash) {
+        return Some(Lack::Money);
+    }
+    None
+}
+
+/// What the pair of two numbers lacks, the earlier first, if anything. Both are those of instructions; neither is copied.
+fn lack_of(lists: &Lists, mate: u64, number: u64) -> Option<Lack>
+    requires { (first second : InstructedValue) × (instruction_at (history_of (content_in (listed lists.now))) mate ≡ Some first) × (instruction_at (history_of (content_in (listed lists.now))) number ≡ Some second) }
+    ensures { (first second : InstructedValue) → instruction_at (history_of (content_in (listed lists.now))) mate ≡ Some first → instruction_at (history_of (content_in (listed lists.now))) number ≡ Some second
+        → IsLackOf (content_in (listed lists.now)) first second result }
+{
+    let earlier = kept_instruction(lists, mate).unwrap();
+    let later = kept_instruction(lists, number).unwrap();
+    lack_between(lists, earlier, later)
+}
+
+/// Why a pair waits that lacks something.
+fn reason_of(lack: Lack) -> Reason
+    ensures { result ≡ reason_of_lack (Some lack) }
+{
+    match lack {
+        Lack::Securities => Reason::Lack,
+        Lack::Money => Reason::Money,
+    }
+}
+
+/// Settles a pair that lacks nothing.
 fn settle_known(
     lists: &mut Lists,
     changes: &mut Vec<Change>,
     pair: &KnownPair,
-) -> Result<Outcome, AllocError>
+) -> Result<(), AllocError>
     requires some { 0 < pair.now.mate }
     requires two { pair.now.mate < pair.now.number }
     requires known { pair.now.number ≤ length lists.old.kept.items }
     requires fits { SidesFit (content_in (listed lists.old)) pair.now.earlier pair.now.later }
-    ensures settled { IfOk result (λ outcome. TriesSides (content_in (listed lists.old)) pair.now.number pair.now.mate pair.now.earlier pair.now.later outcome (content_in (listed lists.new))) }
+    requires covered { IsLackOf (content_in (listed lists.old)) pair.now.earlier pair.now.later None }
+    ensures settled { OnOk result (TriesSides (content_in (listed lists.old)) pair.now.number pair.now.mate pair.now.earlier pair.now.later Outcome.Settled (content_in (listed lists.new))) }
     ensures rest { OnOk result (SameTotals (listed lists.old) (listed lists.new)) }
     ensures before { undone changes.new.items (listed lists.new) ≡ undone changes.old.items (listed lists.old) }
 {
@@ -129,14 +198,6 @@ fn settle_known(
         account: from.instruction.account,
         isin,
     };
-    if balance_of(lists, &given) < quantity {
-        wait(lists, changes, mate, number, Reason::Lack)?;
-        return Ok(Outcome::Lacks(Lack::Securities));
-    }
-    if lacks_cash(lists, to.sender, cash) {
-        wait(lists, changes, mate, number, Reason::Money)?;
-        return Ok(Outcome::Lacks(Lack::Money));
-    }
     let taken = BalanceKey::Position {
         account: to.instruction.account,
         isin,
@@ -144,7 +205,7 @@ fn settle_known(
     stand_both(lists, changes, mate, number, State::Settled)?;
     move_between(lists, changes, given, taken, quantity)?;
     pay(lists, changes, to.sender, from.sender, cash)?;
-    Ok(Outcome::Settled)
+    Ok(())
 }
 
 /// Tries the matched pair of a number: settles it, and moves its quantity between the accounts and its cash between
@@ -162,7 +223,17 @@ pub fn try_settle(
     ensures before { undone changes.new.items (listed lists.new) ≡ undone changes.old.items (listed lists.old) }
 {
     let mate = standing(lists, number).mate.unwrap();
+    if let Some(lack) = lack_of(lists, mate, number) {
+        wait(lists, changes, mate, number, reason_of(lack))?;
+        return Ok(Tried {
+            mate,
+            outcome: Outcome::Lacks(lack),
+        });
+    }
     let pair = pair_of(lists, mate, number);
-    let outcome = settle_known(lists, changes, &pair)?;
-    Ok(Tried { mate, outcome })
+    settle_known(lists, changes, &pair)?;
+    Ok(Tried {
+        mate,
+        outcome: Outcome::Settled,
+    })
 }
