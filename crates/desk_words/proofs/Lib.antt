@@ -5,3 +5,4 @@ mod NumberWords
 mod PlainWords
 mod ReportWords
 mod WordsLemmas
+mod SubcommandLemmas

@@ -1,6 +1,8 @@
 //! The parser of the words: the subcommands, their arguments and their helps.
 ghost use Rattle.std.specs.Prelude.{◌≡◌, false, IfOk};
-ghost use Rattle.clap.specs.Words.{app_of, rule_of};
+ghost use Rattle.std.specs.Result.{IsOkAnd};
+ghost use Rattle.clap.specs.Simple.{shape_of};
+ghost use Rattle.clap.specs.Words.{app_of, rule_of, with_subcommand};
 ghost use Rattle.clap.specs.declared.builder.command.Command.TheViews.{out-Command};
 ghost use Rattle.desk_words.specs.Words.{account_rule, bare_app, bic_rule, check_app, count_rule, db_rule, desk_app, drop_app, explain_app, from_rule, holdings_app, in_rule, isin_app, journal_app, json_rule, needed_db_rule, out_rule, part_rule, play_app, port_rule, read_app, report_app, serve_app, sums_app};
 
@@ -21,18 +23,27 @@ const MOST_ENTRIES_TOLD: i64 = 999_999_999;
 pub fn desk<'a>(alloc: Global) -> Result<Command<'a>, AllocError>
     ensures { IfOk result (λ command. app_of command ≡ desk_app) }
 {
-    bare(alloc)
-        .subcommand(isin(alloc)?)?
-        .subcommand(read(alloc)?)?
-        .subcommand(play(alloc)?)?
-        .subcommand(check(alloc)?)?
-        .subcommand(explain(alloc)?)?
-        .subcommand(serve(alloc)?)?
-        .subcommand(holdings(alloc)?)?
-        .subcommand(sums(alloc)?)?
-        .subcommand(report(alloc)?)?
-        .subcommand(journal(alloc)?)?
-        .subcommand(folder(alloc)?)
+    let command = with(bare(alloc), isin(alloc))?;
+    let command = with(command, read(alloc))?;
+    let command = with(command, play(alloc))?;
+    let command = with(command, check(alloc))?;
+    let command = with(command, explain(alloc))?;
+    let command = with(command, serve(alloc))?;
+    let command = with(command, holdings(alloc))?;
+    let command = with(command, sums(alloc))?;
+    let command = with(command, report(alloc))?;
+    let command = with(command, journal(alloc))?;
+    with(command, folder(alloc))
+}
+
+/// With a subcommand more.
+fn with<'a>(
+    command: Command<'a>,
+    subcommand: Result<Command<'a>, AllocError>,
+) -> Result<Command<'a>, AllocError>
+    ensures { IfOk result (λ added. IsOkAnd subcommand.entry (λ one. (out-Command one).has_globals ≡ false → app_of added ≡ with_subcommand (app_of command.entry) (shape_of one))) }
+{
+    command.subcommand(subcommand?)
 }
 
 /// The program, without its subcommands.

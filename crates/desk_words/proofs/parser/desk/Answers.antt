@@ -1,30 +1,21 @@
-use Rattle.std.proofs.Common.{◌≡◌, ◌∙◌, ap, ap₂}
+use Rattle.std.proofs.Common.{◌≡◌, ◌∙◌, ap}
 use Rattle.std.proofs.lemmas.Result.{IfOk-weaker}
-use Rattle.clap.specs.Words.{App, app_of, with_subcommand}
-use Rattle.desk_words.specs.Words.{bare_app, check_app, explain_app, holdings_app, isin_app, journal_app, play_app, read_app, report_app, serve_app, sums_app}
+use Rattle.clap.specs.Words.{app_of, with_subcommand}
+use Rattle.desk_words.specs.Words.{bare_app, check_app, drop_app, explain_app, holdings_app, isin_app, journal_app, play_app, read_app, report_app, serve_app, sums_app}
+use Rattle.desk_words.proofs.SubcommandLemmas.{added_app}
 use Rattle.desk_words.proofs.parser.desk.Goals as goal
 
 pub returns : goal.returns
 returns c =
-    let named : app_of c.bare.result ≡ bare_app = c.bare.ensures in
-    let first : app_of c.in_ok-subcommand.field-0 ≡ with_subcommand bare_app isin_app.top =
-    c.in_ok-subcommand.ensures.shape c.in_ok-isin.ensures.local ∙ ap₂ with_subcommand named (ap (λ (a : App). a.top) c.in_ok-isin.ensures.app) in
-    let second : app_of c.in_ok-subcommand-2.field-0 ≡ with_subcommand (with_subcommand bare_app isin_app.top) read_app.top =
-    c.in_ok-subcommand-2.ensures.shape c.in_ok-read.ensures.local ∙ ap₂ with_subcommand first (ap (λ (a : App). a.top) c.in_ok-read.ensures.app) in
-    let third : app_of c.in_ok-subcommand-3.field-0 ≡ with_subcommand (with_subcommand (with_subcommand bare_app isin_app.top) read_app.top) play_app.top =
-    c.in_ok-subcommand-3.ensures.shape c.in_ok-play.ensures.local ∙ ap₂ with_subcommand second (ap (λ (a : App). a.top) c.in_ok-play.ensures.app) in
-    let fourth : app_of c.in_ok-subcommand-4.field-0 ≡ with_subcommand (with_subcommand (with_subcommand (with_subcommand bare_app isin_app.top) read_app.top) play_app.top) check_app.top =
-    c.in_ok-subcommand-4.ensures.shape c.in_ok-check.ensures.local ∙ ap₂ with_subcommand third (ap (λ (a : App). a.top) c.in_ok-check.ensures.app) in
-    let fifth : app_of c.in_ok-subcommand-5.field-0 ≡ with_subcommand (with_subcommand (with_subcommand (with_subcommand (with_subcommand bare_app isin_app.top) read_app.top) play_app.top) check_app.top) explain_app.top =
-    c.in_ok-subcommand-5.ensures.shape c.in_ok-explain.ensures.local ∙ ap₂ with_subcommand fourth (ap (λ (a : App). a.top) c.in_ok-explain.ensures.app) in
-    let sixth : app_of c.in_ok-subcommand-6.field-0 ≡ with_subcommand (with_subcommand (with_subcommand (with_subcommand (with_subcommand (with_subcommand bare_app isin_app.top) read_app.top) play_app.top) check_app.top) explain_app.top) serve_app.top =
-    c.in_ok-subcommand-6.ensures.shape c.in_ok-serve.ensures.local ∙ ap₂ with_subcommand fifth (ap (λ (a : App). a.top) c.in_ok-serve.ensures.app) in
-    let seventh : app_of c.in_ok-subcommand-7.field-0 ≡ with_subcommand (with_subcommand (with_subcommand (with_subcommand (with_subcommand (with_subcommand (with_subcommand bare_app isin_app.top) read_app.top) play_app.top) check_app.top) explain_app.top) serve_app.top) holdings_app.top =
-    c.in_ok-subcommand-7.ensures.shape c.in_ok-holdings.ensures.local ∙ ap₂ with_subcommand sixth (ap (λ (a : App). a.top) c.in_ok-holdings.ensures.app) in
-    let eighth : app_of c.in_ok-subcommand-8.field-0 ≡ with_subcommand (with_subcommand (with_subcommand (with_subcommand (with_subcommand (with_subcommand (with_subcommand (with_subcommand bare_app isin_app.top) read_app.top) play_app.top) check_app.top) explain_app.top) serve_app.top) holdings_app.top) sums_app.top =
-    c.in_ok-subcommand-8.ensures.shape c.in_ok-sums.ensures.local ∙ ap₂ with_subcommand seventh (ap (λ (a : App). a.top) c.in_ok-sums.ensures.app) in
-    let ninth : app_of c.in_ok-subcommand-9.field-0 ≡ with_subcommand (with_subcommand (with_subcommand (with_subcommand (with_subcommand (with_subcommand (with_subcommand (with_subcommand (with_subcommand bare_app isin_app.top) read_app.top) play_app.top) check_app.top) explain_app.top) serve_app.top) holdings_app.top) sums_app.top) report_app.top =
-    c.in_ok-subcommand-9.ensures.shape c.in_ok-report.ensures.local ∙ ap₂ with_subcommand eighth (ap (λ (a : App). a.top) c.in_ok-report.ensures.app) in
-    let tenth : app_of c.in_ok-subcommand-10.field-0 ≡ with_subcommand (with_subcommand (with_subcommand (with_subcommand (with_subcommand (with_subcommand (with_subcommand (with_subcommand (with_subcommand (with_subcommand bare_app isin_app.top) read_app.top) play_app.top) check_app.top) explain_app.top) serve_app.top) holdings_app.top) sums_app.top) report_app.top) journal_app.top =
-    c.in_ok-subcommand-10.ensures.shape c.in_ok-journal.ensures.local ∙ ap₂ with_subcommand ninth (ap (λ (a : App). a.top) c.in_ok-journal.ensures.app) in
-    IfOk-weaker c.subcommand-11.result _ _ (λ command added. added.shape c.in_ok-folder.ensures.local ∙ ap₂ with_subcommand tenth (ap (λ (a : App). a.top) c.in_ok-folder.ensures.app)) c.subcommand-11.ensures
+    let app0 : app_of c.bare.result ≡ bare_app = c.bare.ensures in
+    let app1 = added_app c.isin.result (app_of c.in_ok-command.command) (app_of c.bare.result) isin_app c.isin.ensures.app c.isin.ensures.local c.in_ok-command.ensures ∙ ap (λ a. with_subcommand a isin_app.top) app0 in
+    let app2 = added_app c.read.result (app_of c.in_ok-command-2.command) (app_of c.in_ok-command.command) read_app c.read.ensures.app c.read.ensures.local c.in_ok-command-2.ensures ∙ ap (λ a. with_subcommand a read_app.top) app1 in
+    let app3 = added_app c.play.result (app_of c.in_ok-command-3.command) (app_of c.in_ok-command-2.command) play_app c.play.ensures.app c.play.ensures.local c.in_ok-command-3.ensures ∙ ap (λ a. with_subcommand a play_app.top) app2 in
+    let app4 = added_app c.check.result (app_of c.in_ok-command-4.command) (app_of c.in_ok-command-3.command) check_app c.check.ensures.app c.check.ensures.local c.in_ok-command-4.ensures ∙ ap (λ a. with_subcommand a check_app.top) app3 in
+    let app5 = added_app c.explain.result (app_of c.in_ok-command-5.command) (app_of c.in_ok-command-4.command) explain_app c.explain.ensures.app c.explain.ensures.local c.in_ok-command-5.ensures ∙ ap (λ a. with_subcommand a explain_app.top) app4 in
+    let app6 = added_app c.serve.result (app_of c.in_ok-command-6.command) (app_of c.in_ok-command-5.command) serve_app c.serve.ensures.app c.serve.ensures.local c.in_ok-command-6.ensures ∙ ap (λ a. with_subcommand a serve_app.top) app5 in
+    let app7 = added_app c.holdings.result (app_of c.in_ok-command-7.command) (app_of c.in_ok-command-6.command) holdings_app c.holdings.ensures.app c.holdings.ensures.local c.in_ok-command-7.ensures ∙ ap (λ a. with_subcommand a holdings_app.top) app6 in
+    let app8 = added_app c.sums.result (app_of c.in_ok-command-8.command) (app_of c.in_ok-command-7.command) sums_app c.sums.ensures.app c.sums.ensures.local c.in_ok-command-8.ensures ∙ ap (λ a. with_subcommand a sums_app.top) app7 in
+    let app9 = added_app c.report.result (app_of c.in_ok-command-9.command) (app_of c.in_ok-command-8.command) report_app c.report.ensures.app c.report.ensures.local c.in_ok-command-9.ensures ∙ ap (λ a. with_subcommand a report_app.top) app8 in
+    let app10 = added_app c.journal.result (app_of c.in_ok-command-10.command) (app_of c.in_ok-command-9.command) journal_app c.journal.ensures.app c.journal.ensures.local c.in_ok-command-10.ensures ∙ ap (λ a. with_subcommand a journal_app.top) app9 in
+    IfOk-weaker c.with-11.result _ _ (λ command added. added_app c.folder.result (app_of command) (app_of c.in_ok-command-10.command) drop_app c.folder.ensures.app c.folder.ensures.local added ∙ ap (λ a. with_subcommand a drop_app.top) app10) c.with-11.ensures
