@@ -1,8 +1,8 @@
 """Runs the workloads of workloads.txt by turns in two built checkouts: compare.py OLD NEW [SEED] [NAME..], those of these names
 (none: all). A workload is a line NAME CRATE WORD..: the proved program of the crate is run with the words in the folder bench
 of its checkout, the word SEED being a number, and a last word <FILE its standard input. Prints the median processor seconds of
-both and their ratio, and stops where what they print differs. A workload that OLD does not have is told as new and not compared;
-it can be compared with the commit that brought it, and later ones."""
+both and their ratio, and stops where what they print differs. A workload that OLD does not have, or has by other words, is told
+as new and not compared; it can be compared with the commit that brought it, and later ones."""
 
 import os
 import statistics
@@ -53,7 +53,7 @@ def main():
     print("| workload | old | new | old over new |")
     print("|---|--:|--:|--:|", flush=True)
     for name in names or workloads:
-        if name not in known:
+        if known.get(name) != workloads[name]:
             print(f"| {name} | new | | |", flush=True)
             continue
         crate, *words = [seed if word == "SEED" else word for word in workloads[name]]

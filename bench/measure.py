@@ -1,6 +1,6 @@
-"""Times the program of the bench beside Python, the same work and the same figures in one run; scripts played over tables in SQL,
-and by the desk's program over a file, beside their statements asked of Python's SQLite; a register that takes entries in, and the desk's program playing scripts;
-and the same served over HTTP, beside a server of Python's. bench/RESULTS.md has the figures of a run."""
+"""Times the program of the bench beside Python, the same work and the same figures in one run; scripts played by the desk's program
+over a file, beside their statements asked of Python's SQLite; a register that takes entries in, and the desk's program playing
+scripts; and the same served over HTTP, beside a server of Python's. bench/RESULTS.md has the figures of a run."""
 
 import contextlib
 import functools
@@ -149,8 +149,8 @@ MOST_TURNS, ENOUGH_SECONDS = 9, 10
 DESK = "crates/desk/out/desk"
 LONGEST_SCRIPT = 16_777_216
 
-# The program that does one kind of work, and plays scripts over tables in SQL; and the folder in which its files are made,
-# one that lies in memory, where there is such.
+# The program that does one kind of work, and fills and opens files; and the folder in which files are made, one that lies in
+# memory, where there is such.
 BENCH = "crates/desk_bench/out/desk_bench"
 SHARED_MEMORY = "/dev/shm"
 
@@ -383,11 +383,6 @@ def played_by_desk(script, pairs):
     return played([DESK, "play"], script, pairs)
 
 
-def played_in_tables(script, pairs):
-    """As `played`, over tables alone, in memory."""
-    return played([BENCH, "tables"], script, pairs)
-
-
 def folder_in_memory():
     return SHARED_MEMORY if os.path.isdir(SHARED_MEMORY) else tempfile.gettempdir()
 
@@ -409,25 +404,19 @@ def played_in_file(script, pairs, beneath=None, clock=processor_time):
         return played([DESK, "play", "--db", path], script, pairs, clock)
 
 
-def played_in_tables_of_file(script, pairs):
-    """As `played`, over the tables of a new file alone."""
-    with new_path() as path:
-        return played([BENCH, "tables", path], script, pairs)
-
-
 @functools.lru_cache(maxsize=1)
-def bare_desk(script, passes_over=False):
+def bare_desk(script):
     """A desk of bench/statements.py that has played a script."""
-    desk = Desk(passes_over)
+    desk = Desk()
     for request in requests_in(script):
         desk.play(request.decode())
     return desk
 
 
-def asked_of_sqlite(script, pairs, passes_over=False, beneath=None, clock=processor_time):
+def asked_of_sqlite(script, pairs, beneath=None, clock=processor_time):
     """The seconds that Python's SQLite takes for the statements of a script, on a new file with a log of its writes, as the
     desk's library has one, of which each commit waits until the device has it."""
-    desk = bare_desk(script, passes_over)
+    desk = bare_desk(script)
     if desk.settled != pairs:
         sys.exit(f"store: {desk.settled} pairs settled of {pairs}")
     with new_path(beneath) as path:
@@ -453,7 +442,7 @@ def compare_tables():
     """The tables after a day, of the desk and of the bare one, whose statements are timed beside it."""
     script, pairs = mixed_script(SIZES[0])
     with new_path() as path:
-        played([BENCH, "tables", path], script, pairs)
+        played([DESK, "play", "--db", path], script, pairs)
         with contextlib.closing(sqlite3.connect(path)) as connection:
             if rows_in(connection) != rows_in(bare_desk(script).connection):
                 sys.exit("store: the tables of the bare desk are others than the desk's")
@@ -475,15 +464,12 @@ def measure_play():
 
 
 def measure_store():
-    """Scripts of growing length, of a mixed day, over the program's store, over a file with memory beside it, and over tables
-    alone, whose statements are asked of Python's SQLite too."""
+    """Scripts of growing length, of a mixed day, in memory and over a file, whose statements are asked of Python's SQLite too."""
     compare_tables()
     work = [
         ("play in memory", played_by_desk, "desk"),
-        ("play over a file, with memory beside it", played_in_file, "desk"),
-        ("play over the tables of a file alone", played_in_tables_of_file, "desk"),
+        ("play over a file", played_in_file, "desk"),
         ("its statements on a file", asked_of_sqlite, "Python's SQLite"),
-        ("play over tables in memory alone", played_in_tables, "desk"),
     ]
     for name, play, who in work:
         timed_at = functools.partial(script_timed, mixed_script, play)
@@ -493,15 +479,11 @@ def measure_store():
     measure_on_disk()
 
 
-# The statements of a script over a file with memory beside it: a try that would change nothing is asked of neither.
-statements_timed = functools.partial(asked_of_sqlite, passes_over=True)
-
-
 def measure_statements(name, script, pairs):
     """A script over a file, beside its statements asked of Python's SQLite."""
-    desk, python = (min(play(script, pairs) for _ in range(TURNS)) for play in (played_in_file, statements_timed))
+    desk, python = (min(play(script, pairs) for _ in range(TURNS)) for play in (played_in_file, asked_of_sqlite))
     print(
-        f"play over a file, with memory beside it of {name}: desk {desk:.3f} s, "
+        f"play over a file of {name}: desk {desk:.3f} s, "
         f"its statements by Python's SQLite {python:.3f} s, ratio {desk / python:.2f}"
     )
 
@@ -513,11 +495,11 @@ def measure_on_disk():
     for turn in range(DISK_TURNS):
         # which of the two begins changes from turn to turn
         for which in ((0, 1), (1, 0))[turn % 2]:
-            play = (played_in_file, statements_timed)[which]
+            play = (played_in_file, asked_of_sqlite)[which]
             taken[which].append(play(script, pairs, beneath=folder, clock=time.monotonic))
     desk, python = (f"{statistics.median(of):.3f} s ({min(of):.3f} to {max(of):.3f})" for of in taken)
     print(
-        f"play over a file in {folder}, with memory beside it of a mixed day of {DAY:,} requests, by the clock, the median of "
+        f"play over a file in {folder} of a mixed day of {DAY:,} requests, by the clock, the median of "
         f"{DISK_TURNS} by turns: desk {desk}, its statements by Python's SQLite {python}, "
         f"ratio {statistics.median(taken[0]) / statistics.median(taken[1]):.2f}"
     )

@@ -87,14 +87,14 @@ def script_of_day():
 
 
 def texts():
-    """The texts that make the tables and the indexes, in their order."""
+    """The texts that make the tables, in their order."""
     with open(MAKING, encoding="utf-8") as file:
         return re.findall(r'"(CREATE [^"]*)"', file.read())
 
 
 def texts_of_first():
     """Those of version 1, which has two tables."""
-    return [it for it in texts() if re.match(r"CREATE (TABLE (register|version)|INDEX register_about) ", it)]
+    return [it for it in texts() if re.match(r"CREATE TABLE (register|version) ", it)]
 
 
 @contextlib.contextmanager
@@ -159,9 +159,10 @@ def odd_files(room, day):
     yield Odd("a day in a rollback journal's mode", of_day("delete", "PRAGMA journal_mode = DELETE"), A_DAY)
     further = "CREATE TABLE further (number INTEGER PRIMARY KEY) STRICT"
     yield Odd("a table too many", of_day("many", further), OTHER_TABLES)
-    yield Odd("a table too few", of_day("few", "DROP TABLE due"), OTHER_TABLES)
+    yield Odd("a table too few", of_day("few", "DROP TABLE sent"), OTHER_TABLES)
+    yield Odd("an index", of_day("index", "CREATE INDEX further ON register (kind, about)"), OTHER_TABLES)
     yield Odd("a view", of_day("view", "CREATE VIEW further AS SELECT bic FROM cash"), OTHER_TABLES)
-    trigger = "CREATE TRIGGER further AFTER INSERT ON cash BEGIN DELETE FROM due; END"
+    trigger = "CREATE TRIGGER further AFTER INSERT ON cash BEGIN DELETE FROM sent; END"
     yield Odd("a trigger", of_day("trigger", trigger), OTHER_TABLES)
     yield Odd("an analysis", of_day("analysis", "ANALYZE"), OTHER_TABLES)
     yield Odd("the tables of another", changed(path("another"), "CREATE TABLE note (title TEXT)"), OTHER_TABLES)
@@ -174,7 +175,7 @@ def odd_files(room, day):
     yield Odd("version 4", of_day("version 4", "UPDATE version SET number = 4"), OTHER_VERSION)
     yield Odd("two versions", of_day("two versions", "INSERT INTO version VALUES (4)"), OTHER_TABLES)
     yield Odd("no version", of_day("no version", "DELETE FROM version"), OTHER_TABLES)
-    version_4 = "UPDATE version SET number = 4", "DROP TABLE due"
+    version_4 = "UPDATE version SET number = 4", "DROP TABLE sent"
     yield Odd("other tables of version 4", of_day("of version 4", *version_4), OTHER_VERSION)
     versions = "CREATE TABLE version (number INTEGER)", "INSERT INTO version VALUES (1)"
     yield Odd("another's table of versions", changed(path("versions"), *versions), OTHER_VERSION)
@@ -188,8 +189,9 @@ def odd_files(room, day):
     yield Odd("an entry below the first", of_day("below", "UPDATE register SET number = 0 WHERE number = 1"), other_entry(1))
     for table in "balance", "cash", "total":
         yield Odd(f"no first row in {table}", of_day(f"less {table}", f"DELETE FROM {table} WHERE rowid = 1"), other_in(table))
-    for table in "state", "sent", "unmatched", "due":
+    for table in "state", "sent":
         yield Odd(f"no last row in {table}", of_day(f"less {table}", last.format(table)), other_in(table))
+    yield Odd("no first row in sent", of_day("first sent", "DELETE FROM sent WHERE number = 1"), other_in("sent"))
     yield Odd("a balance of nothing", of_day("nothing", "INSERT INTO balance VALUES ('A-9', 'DE0007164600', 0)"), A_DAY)
     somebody = "INSERT INTO balance VALUES ('A-9', 'DE0007164600', 1)"
     yield Odd("a balance of somebody", of_day("somebody", somebody), other_in("balance"))
@@ -229,21 +231,22 @@ def damaged_files(room, day):
     def of_day(name, *statements):
         return changed(shutil.copy(day, os.path.join(room, name)), *statements)
 
-    for table, change, due in [
+    changes = [
         ("register", "quantity = 11 WHERE number = 6", other_in("balance")),
         ("register", "reply = 'accepted 10' WHERE number = 9", other_entry(9)),
         ("register", "about = 'BETADEFF' WHERE number = 12", other_entry(12)),
         ("register", "number = 99 WHERE number = 28", other_entry(28)),
         ("state", "state = 3 WHERE number = 10", other_in("state")),
-        ("unmatched", "quantity = 9 WHERE number = 27", other_in("unmatched")),
-        ("due", "place = place - 1", other_in("due")),
+        ("state", "mate = 28, state = 2, reason = 1 WHERE number = 27", other_in("state")),
+        ("state", "mate = 0, state = 1, reason = 0 WHERE number IN (25, 26)", other_in("state")),
         ("sent", "text = 'MATCHED' WHERE number = 1", other_in("sent")),
         ("balance", "quantity = 4 WHERE account = 'A-1'", other_in("balance")),
         ("cash", "amount = 401 WHERE bic = 'BETADEFF'", other_in("cash")),
         ("total", "amount = 901 WHERE subject = 'currency'", other_in("total")),
         ("version", "number = 2", OTHER_VERSION),
-    ]:
-        yield Odd(f"{table} where {change}", of_day(f"{table}_{change[:4]}", f"UPDATE {table} SET {change}"), due)
+    ]
+    for number, (table, change, due) in enumerate(changes):
+        yield Odd(f"{table} where {change}", of_day(f"{table}_{number}", f"UPDATE {table} SET {change}"), due)
     for number in 1, 13:
         removed = of_day(f"without_{number}", f"DELETE FROM register WHERE number = {number}")
         yield Odd(f"entry {number} removed", removed, other_entry(number))

@@ -48,8 +48,8 @@ UNREPEATED = {
     ("register", "rule"): "kind = 10",
     # the kind of settlement of an instruction that no confirmation repeats
     ("register", "settlement"): "kind = 8 AND number NOT IN (SELECT number FROM state WHERE state = 4)",
-    # of one that was cancelled before it had a counterpart how much it was about
-    ("register", "quantity"): "number IN (SELECT number FROM state WHERE state = 3 AND mate = 0)",
+    # of one that has no counterpart how much it is about
+    ("register", "quantity"): "number IN (SELECT number FROM state WHERE mate = 0)",
     # of cash that is spent whose it was, and of which currency
     ("cash", "bic"): "amount = 0",
     ("cash", "currency"): "amount = 0",

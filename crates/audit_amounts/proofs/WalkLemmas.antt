@@ -29,7 +29,6 @@ use Rattle.sql_tables.specs.Ends.{HasLooked, IfSound, IsLook, IsSame}
 use Rattle.sql_tables.specs.Ends.{IsLater as IsLaterState}
 use Rattle.sql_tables.specs.Schema.{desk_schema}
 use Rattle.sql_amounts.specs.declared.key.Ledger.TheVariants as ledgers
-use Rattle.sql_amounts.specs.declared.key.AmountKey.{AmountKey}
 use Rattle.sql_amounts.specs.declared.key.AmountKey.TheVariants.{Balance, Cash, Currency}
 use Rattle.audit_rows.specs.declared.fault.AuditFault.{AuditFault}
 use Rattle.audit_rows.specs.Audits.{of_register, of_tables}

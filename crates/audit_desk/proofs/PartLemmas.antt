@@ -43,10 +43,6 @@ module _ (db : Database) (limit : ℕ) (books : Books) (content : Content) (part
     entries = parts.entries;
     standings = parts.standings;
     instructions = stands_nowhere limit books content keeps;
-    unmatched = parts.unmatched;
-    due_rows = parts.due_rows;
-    due = parts.due;
-    due_all = parts.due_all;
     sent = parts.sent;
     totals = totals;
     registered = registered limit books content keeps;

@@ -4,14 +4,11 @@ use Rattle.sqlite.specs.Effect.{Database}
 use Rattle.desk_rules.specs.Content.{Content, history_of}
 use Rattle.desk_rules.specs.WellFormed.{AreWellFormed}
 use Rattle.desk_engine.specs.KeptHistory.{HoldsKept}
-use Rattle.desk_rules.specs.Unmatched.{unmatched_in}
 use Rattle.sql_register.specs.Holds.{Becomes}
 use Rattle.sql_sent.specs.Messages.{AreSent}
-use Rattle.sql_standings.specs.Unmatched.{AreUnmatched}
 use Rattle.sql_tables.specs.Version.{HasVersion}
 use Rattle.audit_amounts.specs.Said.{HasAmounts}
 use Rattle.audit_entries.specs.Reading.{IsRead}
-use Rattle.audit_standings.specs.Due.{SaysDue}
 use Rattle.audit_standings.specs.Standings.{SaysStandings}
 
 -- The database is the desk's tables of this version, and says this content; and a register that holds the content has taken each
@@ -25,8 +22,6 @@ pub record IsAudited (db : Database) (limit : ℕ) (content : Content) : Type 0 
 -- the tables beside `version` and `register` say what a content does
 pub record SaysRest (db : Database) (content : Content) : Type 0 where
   pub standings : SaysStandings db content
-  pub unmatched : AreUnmatched db (unmatched_in content)
-  pub due : SaysDue db content
   pub sent : AreSent db content.sent
   pub amounts : HasAmounts db content
 

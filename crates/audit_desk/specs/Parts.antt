@@ -1,21 +1,17 @@
 -- What makes a database the desk's tables of a content, table by table.
-use Rattle.std.specs.Prelude.{◌≡◌, ℕ, ◌+◌, true, List, unwrap_or}
+use Rattle.std.specs.Prelude.{◌≡◌, ℕ, ◌+◌, List, unwrap_or}
 use Rattle.sqlite.specs.Effect.{Database}
 use Rattle.desk_codes.specs.declared.currency.Ccy.{Ccy}
 use Rattle.desk_codes.specs.Currency.{letters_of}
-use Rattle.desk_rules.specs.declared.history.pair.Place.{Place}
 use Rattle.desk_rules.specs.Balances.{issued, redeemed}
 use Rattle.desk_rules.specs.Content.{Content, history_of}
-use Rattle.desk_register.specs.Looked.{IsMatchedPair, IsPaid}
+use Rattle.desk_register.specs.Looked.{IsPaid}
 use Rattle.sql_amounts.specs.declared.key.Ledger.TheVariants.{Balance, Cash}
 use Rattle.sql_amounts.specs.Amounts.{AreAmounts, amount_in}
 use Rattle.sql_entries.specs.Entries.{AreEntries}
 use Rattle.sql_sent.specs.Messages.{AreSent}
-use Rattle.sql_standings.specs.Due.{AreDue, is_due_in}
 use Rattle.sql_standings.specs.Standings.{AreStandings, standing_in}
-use Rattle.sql_standings.specs.Unmatched.{AreUnmatched}
 use Rattle.sql_tables.specs.Schema.{desk_schema}
-use Rattle.desk_rules.specs.Unmatched.{unmatched_in}
 use Rattle.sql_register.specs.Holds.{outstanding_in, paid_in_table}
 
 -- each table says, by itself, what a content does
@@ -24,10 +20,6 @@ pub record HasParts (db : Database) (content : Content) : Type 0 where
   pub entries : AreEntries db content.register
   pub standings : AreStandings db
   pub standing : (n : ℕ) → standing_in db n ≡ content.standing n
-  pub unmatched : AreUnmatched db (unmatched_in content)
-  pub due_rows : AreDue db
-  pub due : (place : Place) → is_due_in db place ≡ true → IsMatchedPair content place
-  pub due_all : (place : Place) → IsMatchedPair content place → is_due_in db place ≡ true
   pub sent : AreSent db content.sent
   pub amounts : AreAmounts db
   pub positions : (account isin : List ℕ) → unwrap_or (amount_in db Balance account isin) 0 ≡ content.position account isin

@@ -12,7 +12,7 @@ ghost use Rattle.audit_desk.specs.Audited.{SaysRest};
 use audit_amounts::has_amounts;
 use audit_rows::AuditFault;
 use audit_sent::has_sent;
-use audit_standings::{has_due, has_standings, has_unmatched};
+use audit_standings::has_standings;
 use desk_register::{Messages, Stage};
 use sqlite::{Alter, Connection};
 use std::alloc::Global;
@@ -22,10 +22,6 @@ use std::alloc::Global;
 pub enum Table {
     /// `state`
     State,
-    /// `unmatched`
-    Unmatched,
-    /// `due`
-    Due,
     /// `sent`
     Sent,
     /// One of `balance`, `cash` and `total`
@@ -48,12 +44,6 @@ pub fn first_other<S: Alter, R: Messages>(
 {
     if !has_standings(alloc, conn, register)? {
         return Ok(Some(Table::State));
-    }
-    if !has_unmatched(alloc, conn, register)? {
-        return Ok(Some(Table::Unmatched));
-    }
-    if !has_due(alloc, conn, register)? {
-        return Ok(Some(Table::Due));
     }
     if !has_sent(alloc, conn, register)? {
         return Ok(Some(Table::Sent));

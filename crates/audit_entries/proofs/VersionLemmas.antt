@@ -1,5 +1,5 @@
 -- What the text on `version` shows.
-use Rattle.std.proofs.Common.{◌≡◌, inl, inr, ℕ, pos, List, [], ◌∷◌, map, codes, Some, Bool, IsTrue, refl, sym, ap, subst, ◌∙◌, Ok, Err, Result, IfOk, Vec}
+use Rattle.std.proofs.Common.{◌≡◌, ◌↔◌, inl, inr, ℕ, pos, List, [], ◌∷◌, map, codes, Some, Bool, IsTrue, refl, sym, ap, subst, ◌∙◌, Ok, Err, Result, IfOk, Vec}
 use Rattle.std.specs.declared.alloc.Global.{Global}
 use Rattle.std.specs.List.{AllByRecursion}
 use Rattle.std.specs.List.Sorted.{IsPermutation}
@@ -28,7 +28,7 @@ use Rattle.sql_opening.specs.Forms.{AreValues, HasForm}
 abbrev pub all_text : List ℕ
 all_text = codes "SELECT number FROM version"
 
-all_is : command_of (understood desk_schema all_text) ≡ Select (record { lets = []; body = plain 13 [] (col 1 0 ∷ []) }) (codes "number" ∷ [])
+all_is : command_of (understood desk_schema all_text) ≡ Select (record { lets = []; body = plain 10 [] (col 1 0 ∷ []) }) (codes "number" ∷ [])
 unfolding understood everything
 all_is = refl
 
@@ -40,10 +40,10 @@ abbrev number_shown : Row → Row
 number_shown row = rowid row ∷ []
 
 pub all_shown : (old new : State) → old.now.schema ≡ desk_schema → (r : Result (Vec Row Global) Error) → IfOk r (λ rows. Shown all_text [] old new rows.items)
-    → IfOk r (λ rows. IsPermutation (map (λ row. rowid row ∷ []) (old.now.trees 13)) rows.items)
+    → IfOk r (λ rows. IsPermutation (map (λ row. rowid row ∷ []) (old.now.trees 10)) rows.items)
 all_shown old new has (Ok rows) h =
     let answers = reads_as all_text [] old new desk_schema has _ all_is reads_all.plain reads_all.unlisted rows.items h in
-    subst (λ (xs : List Row). IsPermutation (map number_shown xs) rows.items) (all_kept (old.now.trees 13)) (plain_rows 13 [] (col 1 0 ∷ []) (overlay old.now.trees []) [] rows.items (answers.answer Null))
+    subst (λ (xs : List Row). IsPermutation (map number_shown xs) rows.items) (all_kept (old.now.trees 10)) (plain_rows 10 [] (col 1 0 ∷ []) (overlay old.now.trees []) [] rows.items (answers.answer Null))
 all_shown old new has (Err e) h = tt
 
 bare : (values : Row) → AreValues version_table.key 0 version_table.columns values → IsBare values
@@ -65,9 +65,13 @@ says_it number (r ∷ []) formed is =
     one a b e = cc
 says_it number (r ∷ (s ∷ more)) formed is = absurd (cc)
 
-pub says_version : (db : Database) (number : ℕ) (shown items : List Row) (told : Bool) → IsPermutation (map (λ row. rowid row ∷ []) (db.trees 13)) items → shown ≡ items → (IsTrue told → shown ≡ (Int (pos number) ∷ []) ∷ [])
-    → AllByRecursion (HasForm version_table) (db.trees 13) → IsTrue told → HasVersion db (Some number)
+pub says_version : (db : Database) (number : ℕ) (shown items : List Row) (told : Bool) → IsPermutation (map (λ row. rowid row ∷ []) (db.trees 10)) items → shown ≡ items → (IsTrue told ↔ (shown ≡ (Int (pos number) ∷ []) ∷ []))
+    → AllByRecursion (HasForm version_table) (db.trees 10) → IsTrue told → HasVersion db (Some number)
 says_version db number shown items told same is tells formed all =
-    let back = IsPermutation-sym (map number_shown (db.trees 13)) items same in
-    let only : map number_shown (db.trees 13) ≡ (Int (pos number) ∷ []) ∷ [] = one_permutation (Int (pos number) ∷ []) (map number_shown (db.trees 13)) (subst (λ (xs : List Row). IsPermutation xs (map number_shown (db.trees 13))) (sym is ∙ tells all) back) in
-    says_it number (db.trees 13) formed only
+    let back = IsPermutation-sym (map number_shown (db.trees 10)) items same in
+    let only : map number_shown (db.trees 10) ≡ (Int (pos number) ∷ []) ∷ [] = one_permutation (Int (pos number) ∷ []) (map number_shown (db.trees 10)) (subst (λ (xs : List Row). IsPermutation xs (map number_shown (db.trees 10))) (sym is ∙ tells.0 all) back) in
+    says_it number (db.trees 10) formed only
+
+-- where the table says a version, that alone is shown
+pub version_shown : (db : Database) (number : ℕ) (items : List Row) → HasVersion db (Some number) → IsPermutation (map (λ row. rowid row ∷ []) (db.trees 10)) items → items ≡ (Int (pos number) ∷ []) ∷ []
+version_shown db number items version same = one_permutation (Int (pos number) ∷ []) items (subst (λ (xs : List Row). IsPermutation xs items) (ap (map number_shown) version.2) same)

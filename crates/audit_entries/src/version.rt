@@ -1,5 +1,5 @@
 //! The table `version`.
-ghost use Rattle.std.specs.Prelude.{◌≡◌, ◌∷◌, [], pos, Some, map, IsTrue, IfOk};
+ghost use Rattle.std.specs.Prelude.{◌≡◌, ◌↔◌, ◌∷◌, [], pos, Some, map, IsTrue, IfOk};
 ghost use Rattle.std.specs.List.{AllByRecursion};
 ghost use Rattle.std.specs.List.Sorted.{IsPermutation};
 ghost use Rattle.sqlite.specs.declared.types.Value.TheVariants.{Int};
@@ -8,15 +8,14 @@ ghost use Rattle.sql_tables.specs.Calls.{Looks, Soundly, tables};
 ghost use Rattle.sql_tables.specs.Version.{HasVersion};
 ghost use Rattle.sql_opening.specs.Forms.{AreAllFormed};
 
-use audit_rows::same_row;
+use sql_tables::rows::number_at;
 use sql_tables::statement::query;
-use sql_tables::values::integer;
 use sql_tables::version::VERSION;
 use sqlite::{Alter, Connection, Error, Row};
 
 /// All rows.
 fn rows_of<S: Alter>(conn: &mut Connection<S>) -> Result<Vec<Row>, Error>
-    ensures shown { Soundly S.Store conn.old conn.new (IfOk result (λ rows. IsPermutation (map (λ row. rowid row ∷ []) ((tables S.Store conn.old).trees 13)) rows.items)) }
+    ensures shown { Soundly S.Store conn.old conn.new (IfOk result (λ rows. IsPermutation (map (λ row. rowid row ∷ []) ((tables S.Store conn.old).trees 10)) rows.items)) }
     ensures look { Looks S.Store conn.old conn.new result }
 {
     query(conn, "SELECT number FROM version", &[])
@@ -24,10 +23,10 @@ fn rows_of<S: Alter>(conn: &mut Connection<S>) -> Result<Vec<Row>, Error>
 
 /// Whether shown rows are one, which says the version of these tables.
 fn is_version(rows: &[Row]) -> bool
-    ensures { IsTrue result → rows.now ≡ (Int (pos 3) ∷ []) ∷ [] }
+    ensures exact { IsTrue result ↔ (rows.now ≡ (Int (pos 3) ∷ []) ∷ []) }
 {
     match rows {
-        [row] => same_row(row, &[integer(VERSION)]),
+        [row] => row.column_count() == 1 && matches!(number_at(row, 0), Ok(VERSION)),
         _ => false,
     }
 }
@@ -35,6 +34,7 @@ fn is_version(rows: &[Row]) -> bool
 /// Whether the table `version` says the version of these tables, by the one row that it has.
 pub fn has_version<S: Alter>(conn: &mut Connection<S>) -> Result<bool, Error>
     ensures says { Soundly S.Store conn.old conn.new (AreAllFormed (tables S.Store conn.old).trees → IfOk result (λ ok. IsTrue ok → HasVersion (tables S.Store conn.old) (Some 3))) }
+    ensures all { Soundly S.Store conn.old conn.new (HasVersion (tables S.Store conn.old) (Some 3) → IfOk result IsTrue) }
     ensures look { Looks S.Store conn.old conn.new result }
 {
     let rows = rows_of(conn)?;

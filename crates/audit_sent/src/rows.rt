@@ -21,12 +21,12 @@ use sqlite::{Alter, Connection, Error, Row};
 /// The rows of a number.
 fn rows_at<S: Alter>(conn: &mut Connection<S>, number: u64) -> Result<Vec<Row>, Error>
     requires { number < 2 ^ 63 }
-    ensures shown { Soundly S.Store conn.old conn.new (IfOk result (λ rows. IsPermutation (map (shown_by 5) (filter (has_number number) ((tables S.Store conn.old).trees 11))) rows.items)) }
+    ensures shown { Soundly S.Store conn.old conn.new (IfOk result (λ rows. IsPermutation (map (shown_by 4) (filter (has_number number) ((tables S.Store conn.old).trees 9))) rows.items)) }
     ensures look { Looks S.Store conn.old conn.new result }
 {
     query(
         conn,
-        "SELECT number, bic, place, mt, about, text FROM sent WHERE number = ?1",
+        "SELECT number, bic, mt, about, text FROM sent WHERE number = ?1",
         &[integer(number)],
     )
 }
@@ -34,7 +34,7 @@ fn rows_at<S: Alter>(conn: &mut Connection<S>, number: u64) -> Result<Vec<Row>, 
 /// The numbers above one.
 fn rows_above<S: Alter>(conn: &mut Connection<S>, number: u64) -> Result<Vec<Row>, Error>
     requires { number < 2 ^ 63 }
-    ensures shown { Soundly S.Store conn.old conn.new (IfOk result (λ rows. rows.items ≡ [] → filter (is_above number) ((tables S.Store conn.old).trees 11) ≡ [])) }
+    ensures shown { Soundly S.Store conn.old conn.new (IfOk result (λ rows. rows.items ≡ [] → filter (is_above number) ((tables S.Store conn.old).trees 9) ≡ [])) }
     ensures look { Looks S.Store conn.old conn.new result }
 {
     query(
@@ -47,7 +47,7 @@ fn rows_above<S: Alter>(conn: &mut Connection<S>, number: u64) -> Result<Vec<Row
 /// The numbers below one.
 fn rows_below<S: Alter>(conn: &mut Connection<S>, number: u64) -> Result<Vec<Row>, Error>
     requires { number < 2 ^ 63 }
-    ensures shown { Soundly S.Store conn.old conn.new (IfOk result (λ rows. rows.items ≡ [] → filter (is_below number) ((tables S.Store conn.old).trees 11) ≡ [])) }
+    ensures shown { Soundly S.Store conn.old conn.new (IfOk result (λ rows. rows.items ≡ [] → filter (is_below number) ((tables S.Store conn.old).trees 9) ≡ [])) }
     ensures look { Looks S.Store conn.old conn.new result }
 {
     query(
@@ -58,15 +58,13 @@ fn rows_below<S: Alter>(conn: &mut Connection<S>, number: u64) -> Result<Vec<Row
 }
 
 /// The values of a message's row.
-fn values(number: u64, place: u64, message: &Sent) -> [ValueRef<'_>; 6]
-    requires number { number < 2 ^ 63 }
-    requires place { place < 2 ^ 63 }
-    ensures { bound result ≡ Int (pos number) ∷ values_of (place, message.now) }
+fn values(number: u64, message: &Sent) -> [ValueRef<'_>; 5]
+    requires { number < 2 ^ 63 }
+    ensures { bound result ≡ Int (pos number) ∷ values_of message.now }
 {
     [
         integer(number),
         ValueRef::Text(message.bic.as_bytes()),
-        integer(place),
         integer(u64::from(message.mt)),
         signed(message.about.cast_signed()),
         ValueRef::Text(message.text.as_bytes()),
@@ -74,13 +72,12 @@ fn values(number: u64, place: u64, message: &Sent) -> [ValueRef<'_>; 6]
 }
 
 /// Whether shown rows are the one of a message.
-fn is_row_of(rows: &[Row], number: u64, place: u64, message: &Sent) -> bool
-    requires number { number < 2 ^ 63 }
-    requires place { place < 2 ^ 63 }
-    ensures { IsTrue result → rows.now ≡ (Int (pos number) ∷ values_of (place, message.now)) ∷ [] }
+fn is_row_of(rows: &[Row], number: u64, message: &Sent) -> bool
+    requires { number < 2 ^ 63 }
+    ensures { IsTrue result → rows.now ≡ (Int (pos number) ∷ values_of message.now) ∷ [] }
 {
     match rows {
-        [row] => same_row(row, &values(number, place, message)),
+        [row] => same_row(row, &values(number, message)),
         _ => false,
     }
 }
@@ -89,23 +86,21 @@ fn is_row_of(rows: &[Row], number: u64, place: u64, message: &Sent) -> bool
 pub fn has_row<S: Alter>(
     conn: &mut Connection<S>,
     number: u64,
-    place: u64,
     message: &Sent,
 ) -> Result<bool, Error>
-    requires number { number < 2 ^ 63 }
-    requires place { place < 2 ^ 63 }
-    ensures row { Soundly S.Store conn.old conn.new (AllByRecursion (HasForm sent_table) ((tables S.Store conn.old).trees 11)
-        → IfOk result (λ ok. IsTrue ok → HasOne ((tables S.Store conn.old).trees 11) number (values_of (place, message.now)))) }
+    requires { number < 2 ^ 63 }
+    ensures row { Soundly S.Store conn.old conn.new (AllByRecursion (HasForm sent_table) ((tables S.Store conn.old).trees 9)
+        → IfOk result (λ ok. IsTrue ok → HasOne ((tables S.Store conn.old).trees 9) number (values_of message.now))) }
     ensures look { Looks S.Store conn.old conn.new result }
 {
     let rows = rows_at(conn, number)?;
-    Ok(is_row_of(&rows, number, place, message))
+    Ok(is_row_of(&rows, number, message))
 }
 
 /// Whether there is no row below 1, nor above the last.
 pub fn has_no_other<S: Alter>(conn: &mut Connection<S>, count: u64) -> Result<bool, Error>
     requires { count < 2 ^ 63 }
-    ensures none { Soundly S.Store conn.old conn.new (IfOk result (λ ok. IsTrue ok → HasNoOther ((tables S.Store conn.old).trees 11) count)) }
+    ensures none { Soundly S.Store conn.old conn.new (IfOk result (λ ok. IsTrue ok → HasNoOther ((tables S.Store conn.old).trees 9) count)) }
     ensures look { Looks S.Store conn.old conn.new result }
 {
     if !rows_above(conn, count)?.is_empty() {

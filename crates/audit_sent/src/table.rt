@@ -1,5 +1,5 @@
 //! The table beside the messages of a register, number by number.
-ghost use Rattle.std.specs.Prelude.{◌≡◌, ◌+◌, ◌<◌, ◌^◌, take, IsTrue, IfOk};
+ghost use Rattle.std.specs.Prelude.{◌≡◌, ◌+◌, ◌<◌, ◌^◌, IsTrue, IfOk};
 ghost use Rattle.std.specs.List.{AllByRecursion};
 ghost use Rattle.desk_register.specs.View.{IfTrusted};
 ghost use Rattle.sql_sent.specs.Messages.{AreSent};
@@ -8,18 +8,14 @@ ghost use Rattle.sql_tables.specs.Schema.{desk_schema, sent_table};
 ghost use Rattle.sql_opening.specs.Forms.{AreAllFormed, HasForm};
 ghost use Rattle.sql_opening.specs.Order.{AreInOrder};
 ghost use Rattle.audit_rows.specs.Audits.{Audits, Consults};
-ghost use Rattle.audit_sent.specs.Placed.{ArePlaces};
-ghost use Rattle.audit_sent.specs.Told.{AreTold, IsTold, IsToldNext};
+ghost use Rattle.audit_sent.specs.Told.{AreTold, IsTold};
 
-use crate::places::placed;
 use crate::rows::{has_no_other, has_row};
 use audit_rows::{AuditFault, MOST};
-use desk_codes::Bic;
 use desk_register::{Messages, Stage};
 use desk_rules::Sent;
 use sqlite::{Alter, Connection};
 use std::alloc::Global;
-use std::collections::BTreeMap;
 
 /// The number of the instruction that a message is about.
 fn about(message: &Sent) -> u64
@@ -29,31 +25,26 @@ fn about(message: &Sent) -> u64
     message.about
 }
 
-/// Whether the row behind so many others is that of the message behind as many, whose place is counted.
+/// Whether the row behind so many others is that of the message behind as many.
 fn is_told<S: Alter, R: Messages>(
     alloc: Global,
     conn: &mut Connection<S>,
     register: &mut R,
-    places: &mut BTreeMap<Bic, u64>,
     before: u64,
 ) -> Result<bool, AuditFault>
     requires few { before + 1 < 2 ^ 63 }
     requires stage { (R.Register.view register.old).stage ≡ Stage.Idle }
-    ensures told { Soundly S.Store conn.old conn.new (IfTrusted (R.Register.view register.old) (R.Register.view register.new)
-        (AllByRecursion (HasForm sent_table) ((tables S.Store conn.old).trees 11) → ArePlaces places.old (take before (R.Register.view register.old).content.sent)
-        → IfOk result (λ ok. IsTrue ok → IsToldNext ((tables S.Store conn.old).trees 11) (R.Register.view register.old).content.sent before places.new))) }
+    ensures told { Soundly S.Store conn.old conn.new (IfTrusted (R.Register.view register.old) (R.Register.view register.new) (AllByRecursion (HasForm sent_table) ((tables S.Store conn.old).trees 9)
+        → IfOk result (λ ok. IsTrue ok → IsTold ((tables S.Store conn.old).trees 9) (R.Register.view register.old).content.sent (before + 1)))) }
     ensures look { Audits S.Store conn.old conn.new result }
     ensures read { Consults result (R.Register.view register.old) (R.Register.view register.new) }
 {
-    let Some((place, message)) = placed(alloc, register, places, before)? else {
+    let Some(message) = register.message(alloc, before + 1)? else {
         return Ok(false);
     };
     // so it is known to fit
     let _about = about(&message);
-    if place > MOST {
-        return Ok(false);
-    }
-    let told = has_row(conn, before + 1, place, &message)?;
+    let told = has_row(conn, before + 1, &message)?;
     Ok(told)
 }
 
@@ -66,14 +57,13 @@ fn are_told<S: Alter, R: Messages>(
 ) -> Result<bool, AuditFault>
     requires few { count < 2 ^ 63 }
     requires stage { (R.Register.view register.old).stage ≡ Stage.Idle }
-    ensures told { Soundly S.Store conn.old conn.new (IfTrusted (R.Register.view register.old) (R.Register.view register.new) (AllByRecursion (HasForm sent_table) ((tables S.Store conn.old).trees 11)
-        → IfOk result (λ ok. IsTrue ok → AreTold ((tables S.Store conn.old).trees 11) (R.Register.view register.old).content.sent count))) }
+    ensures told { Soundly S.Store conn.old conn.new (IfTrusted (R.Register.view register.old) (R.Register.view register.new) (AllByRecursion (HasForm sent_table) ((tables S.Store conn.old).trees 9)
+        → IfOk result (λ ok. IsTrue ok → AreTold ((tables S.Store conn.old).trees 9) (R.Register.view register.old).content.sent count))) }
     ensures look { Audits S.Store conn.old conn.new result }
     ensures read { Consults result (R.Register.view register.old) (R.Register.view register.new) }
 {
-    let mut places = BTreeMap::new(alloc);
     for before in 0..count {
-        if !is_told(alloc, conn, register, &mut places, before)? {
+        if !is_told(alloc, conn, register, before)? {
             return Ok(false);
         }
     }

@@ -1,7 +1,4 @@
-mod DuePlaces
-mod DueTable
-mod DueTexts
+mod OrderedRows
+mod SaidRows
 mod StandingRows
 mod StandingTable
-mod UnmatchedRows
-mod UnmatchedTable

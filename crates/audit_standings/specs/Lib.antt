@@ -1,3 +1,1 @@
-pub mod Due
 pub mod Standings
-pub mod Unmatched

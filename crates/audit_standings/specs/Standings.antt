@@ -23,14 +23,14 @@ row_by state values = Some values
 abbrev pub wanted : (ℕ → Standing) → ℕ → Option Row
 wanted standing n = row_by (standing n).state (columns_of (written_of (standing n)))
 
--- what a row tells of a standing, or that there is none, is the standing
-abbrev pub IsTold : Standing → Type 0
-IsTold s = (s ≡ no_standing) ⊎ ((s.state ≢ NoInstruction) × (standing_written (written_of s) ≡ s))
+-- what the row of a number tells of a standing, or that there is none, is the standing
+abbrev pub IsTold : ℕ → Standing → Type 0
+IsTold n s = (s ≡ no_standing) ⊎ ((n < 2 ^ 63) × (s.state ≢ NoInstruction) × (standing_written (written_of s) ≡ s))
 
 -- the rows show the standings of the first numbers, and nothing else
 pub record AreTold (standing : ℕ → Standing) (n : ℕ) (rows : List Row) : Type 0 where
   pub shown : rows ≡ map (shown_by 4) (numbered_from (wanted standing) 0 n)
-  pub each : (k : ℕ) → k < n → IsTold (standing (k + 1))
+  pub each : (k : ℕ) → k < n → IsTold (k + 1) (standing (k + 1))
 
 -- ---- the table
 
@@ -42,8 +42,3 @@ StandsWithin content = (n : ℕ) → (n ≡ 0) ⊎ (length content.register < n)
 pub record SaysStandings (db : Database) (content : Content) : Type 0 where
   pub kept : AreStandings db
   pub each : (n : ℕ) → standing_in db n ≡ content.standing n
-
--- rows show where each entry stands, whose numbers fit
-pub record TellsAll (content : Content) (rows : List Row) : Type 0 where
-  pub told : AreTold content.standing (length content.register) rows
-  pub few : length content.register < 2 ^ 63

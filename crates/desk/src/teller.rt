@@ -169,8 +169,6 @@ impl<'a> Teller<'a> {
     fn differs_in(&self, table: Table) {
         let name = match table {
             Table::State => "state",
-            Table::Unmatched => "unmatched",
-            Table::Due => "due",
             Table::Sent => "sent",
             Table::Amounts => "balance, cash or total",
         };

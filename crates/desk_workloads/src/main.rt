@@ -3,10 +3,10 @@
 //! Each makes its input from the seed, another one in each round, and calls what the crates of the desk hand out. It prints
 //! a digest of all results and their length. bench/workloads.txt has the words that bench/run times.
 //!
-//! `day` plays days as scripts in memory, `tables` one over tables in SQL, `file` the same over a register in memory
-//! beside them, `runs` lets runs go over much that waits,
-//! `reports` asks for statements and totals of many securities, `messages` reads messages and serves connections,
-//! `replay` takes a kept history in once more, and `commands` plays operator's commands in several spellings.
+//! `day` plays days as scripts in memory, `file` one over a register in memory beside tables in SQL, `tables` a small one over
+//! the tables alone, `runs` lets runs go over much that waits, `reports` asks for statements and totals of many securities,
+//! `messages` reads messages and serves connections, `replay` takes a kept history in once more, and `commands` plays
+//! operator's commands in several spellings.
 #![tactic(auto)]
 
 mod codes;

@@ -1,4 +1,5 @@
-//! A day over tables in SQL, in a file that is kept in memory, with its log; and over a register in memory beside them.
+//! A day over a register in memory beside tables in SQL, in a file that is kept in memory, with its log; and a small one over the
+//! tables alone.
 ghost use Rattle.std.specs.Prelude.{◌≡◌, IsTrue, None, false};
 ghost use Rattle.sqlite.specs.Held.{state};
 ghost use Rattle.sqlite.specs.State.{HasCleanDisk};
@@ -33,6 +34,16 @@ const MIDDLE: Depository = Depository {
     is_asked: true,
 };
 
+/// One of twenty participants, with a run each 20 pairs.
+const SMALL: Depository = Depository {
+    participants: 20,
+    accounts: 40,
+    securities: 20,
+    issued: 3,
+    pairs_a_run: 20,
+    is_asked: true,
+};
+
 /// Any number will do for the log's salts.
 const SALT: u64 = 7;
 
@@ -45,6 +56,24 @@ pub enum Registers {
     Tables,
 }
 
+impl Registers {
+    /// Whose day is played: by tables alone a small one's, since they find most of what is asked by going over all their rows.
+    fn depository(self) -> Depository {
+        match self {
+            Registers::Both => MIDDLE,
+            Registers::Tables => SMALL,
+        }
+    }
+
+    /// How many requests it has.
+    fn requests(self) -> u32 {
+        match self {
+            Registers::Both => 10_000,
+            Registers::Tables => 1_500,
+        }
+    }
+}
+
 /// Plays a day on a desk whose tables are made in a new file.
 pub fn play_over_tables(
     alloc: Global,
@@ -54,13 +83,14 @@ pub fn play_over_tables(
     size: Size,
     digest: &mut Digest,
 ) -> Result<(), Failure> {
-    let mut day = Day::new(alloc, MIDDLE, Draw::new(seed, round))?;
+    let mut day = Day::new(alloc, registers.depository(), Draw::new(seed, round))?;
+    let requests = size.of(registers.requests());
     let files = Files {
         log: MemoryFile::new(alloc),
         db: MemoryFile::new(alloc),
     };
     match Connection::open_files(alloc, files, Options::new(SALT)) {
-        Ok(conn) => play_on(alloc, registers, conn, &mut day, size.of(10_000), digest),
+        Ok(conn) => play_on(alloc, registers, conn, &mut day, requests, digest),
         Err(_) => Err(Failure::Tables),
     }
 }

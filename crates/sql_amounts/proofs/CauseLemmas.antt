@@ -9,7 +9,7 @@ use Rattle.std.proofs.lemmas.Cmp.{tied_itself}
 use Rattle.sqlite.specs.Order.{Row, value_cmp}
 use Rattle.sqlite_value.specs.Keys.{first_key}
 use Rattle.sqlite_value.proofs.OrderLemmas.{value_cmp_total}
-use Rattle.sqlite.specs.declared.types.Value.TheVariants.{Int}
+use Rattle.sqlite.specs.declared.types.Value.TheVariants.{Int, Text as Words}
 use Rattle.sqlite.specs.declared.error.Error.{Error}
 use Rattle.sqlite.specs.Effect.{IsDatabase}
 use Rattle.sqlite.specs.Edit.{next_rowid, without_all}
@@ -32,10 +32,10 @@ use Rattle.sql_amounts.specs.declared.key.Ledger.{Ledger}
 use Rattle.sql_amounts.specs.declared.key.Ledger.TheVariants.{Balance, Cash, Total}
 use Rattle.sql_amounts.specs.declared.key.AmountKey.{AmountKey}
 use Rattle.sql_amounts.specs.Keys.{Texts, same_texts, ledger_of, texts_of, tree_of}
-use Rattle.sql_amounts.specs.Statements.{amount_text, take_text, put_text, first_text, next_text}
+use Rattle.sql_amounts.specs.Statements.{amount_text, take_text, put_text, first_text, next_text, held_text, held_cash_text}
 use Rattle.sql_amounts.specs.Amounts.{AreAmounts, AreAmountRows, AreApart, IsStored, amount_at, is_at, stored, texts_in}
 use Rattle.sql_amounts.specs.Changes.{had}
-use Rattle.sql_amounts.proofs.Meanings.{first_terms, place_of, amount_is, amount_query, amount_whole, amount_typed, take_is, take_whole, take_typed, put_is, put_whole, put_typed, first_is, first_whole, next_is, next_query, next_whole, next_typed}
+use Rattle.sql_amounts.proofs.Meanings.{first_terms, place_of, amount_is, amount_query, amount_whole, amount_typed, take_is, take_whole, take_typed, put_is, put_whole, put_typed, first_is, first_whole, next_is, next_query, next_whole, next_typed, held_is, held_query, held_whole, held_cash_is, held_cash_query, held_cash_whole, code_typed}
 use Rattle.sql_amounts.proofs.RowLemmas.{flip_apart}
 use Rattle.sql_amounts.proofs.EffectLemmas.{FindsToPut, FindsToTake, cast_stored, first_news, first_set, of_texts, put_finds, row_set, shown_row, table_at, table_of, take_finds, update_edit}
 
@@ -140,6 +140,12 @@ module _ (old new : State) (has : old.now.schema ≡ desk_schema) (open' : IsTru
   pub walk_caused : (account from : List ℕ) (r : Result (Vec Row Global) Error) → IfErr r (FailsToQuery next_text (of_texts (account, from) []) old new) → IfErr r (ForCause old new)
   walk_caused account from r h =
       query_caused old new has open' next_text (of_texts (account, from) []) next_whole _ _ next_is next_query.unlisted (next_typed account from) refl refl r h
+
+  pub held_caused : (isin : List ℕ) (r : Result (Vec Row Global) Error) → IfErr r (FailsToQuery held_text (Words isin ∷ []) old new) → IfErr r (ForCause old new)
+  held_caused isin r h = query_caused old new has open' held_text (Words isin ∷ []) held_whole _ _ held_is held_query.unlisted (code_typed Balance isin) refl refl r h
+
+  pub held_cash_caused : (letters : List ℕ) (r : Result (Vec Row Global) Error) → IfErr r (FailsToQuery held_cash_text (Words letters ∷ []) old new) → IfErr r (ForCause old new)
+  held_cash_caused letters r h = query_caused old new has open' held_cash_text (Words letters ∷ []) held_cash_whole _ _ held_cash_is held_cash_query.unlisted (code_typed Cash letters) refl refl r h
 
   module _ (obeyed : IsDatabase old.now) (key : AmountKey) (d : ℕ) (amounts : AreAmounts old.now) where
     abbrev ledger : Ledger

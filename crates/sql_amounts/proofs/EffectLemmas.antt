@@ -93,9 +93,9 @@ table_at Cash = refl
 table_at Total = refl
 
 pub no_index : (ledger : Ledger) → IsNoIndex desk_schema (tree_of ledger)
-no_index Balance = (λ e. absurd (cc), (λ e. absurd (cc), (λ e. absurd (cc), (λ e. absurd (cc), (λ e. absurd (cc), (λ e. absurd (cc), (λ e. absurd (cc), (λ e. absurd (cc), tt))))))))
-no_index Cash = (λ e. absurd (cc), (λ e. absurd (cc), (λ e. absurd (cc), (λ e. absurd (cc), (λ e. absurd (cc), (λ e. absurd (cc), (λ e. absurd (cc), (λ e. absurd (cc), tt))))))))
-no_index Total = (λ e. absurd (cc), (λ e. absurd (cc), (λ e. absurd (cc), (λ e. absurd (cc), (λ e. absurd (cc), (λ e. absurd (cc), (λ e. absurd (cc), (λ e. absurd (cc), tt))))))))
+no_index Balance = (λ e. absurd (cc), (λ e. absurd (cc), (λ e. absurd (cc), (λ e. absurd (cc), tt))))
+no_index Cash = (λ e. absurd (cc), (λ e. absurd (cc), (λ e. absurd (cc), (λ e. absurd (cc), tt))))
+no_index Total = (λ e. absurd (cc), (λ e. absurd (cc), (λ e. absurd (cc), (λ e. absurd (cc), tt))))
 
 below_six : (ledger : Ledger) → tree_of ledger < 6
 below_six Balance = omega arith
@@ -165,7 +165,7 @@ overlaid db Cash = refl
 overlaid db Total = refl
 
 -- the rows that a query of one table shows
-table_rows : (ledger : Ledger) (terms shown : List Term) (db : Trees) (params : Row) (rows : List Row) → IsAnswer (plain (tree_of ledger) terms shown) (overlay db []) params rows
+pub table_rows : (ledger : Ledger) (terms shown : List Term) (db : Trees) (params : Row) (rows : List Row) → IsAnswer (plain (tree_of ledger) terms shown) (overlay db []) params rows
     → IsPermutation (map (λ row. eval_all shown (params ∷ row ∷ [])) (filter (passes_all terms params) (db (tree_of ledger)))) rows
 table_rows ledger terms shown db params rows answer =
     subst (λ xs. IsPermutation (map (λ row. eval_all shown (params ∷ row ∷ [])) (filter (passes_all terms params) xs)) rows) (overlaid db ledger) (plain_rows (tree_of ledger) terms shown (overlay db []) params rows answer)

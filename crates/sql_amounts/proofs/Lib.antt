@@ -2,6 +2,7 @@ pub mod Meanings
 pub mod RowLemmas
 pub mod EffectLemmas
 pub mod HoldingLemmas
+pub mod HeldLemmas
 pub mod AmountLemmas
 pub mod ClauseLemmas
 pub mod PermutationLemmas

@@ -19,7 +19,7 @@ use Rattle.sql_tables.proofs.BlameLemmas.{IsWhole}
 use Rattle.sql_amounts.specs.declared.key.Ledger.{Ledger}
 use Rattle.sql_amounts.specs.declared.key.Ledger.TheVariants.{Balance, Cash, Total}
 use Rattle.sql_amounts.specs.Keys.{tree_of}
-use Rattle.sql_amounts.specs.Statements.{amount_text, take_text, put_text, first_text, next_text}
+use Rattle.sql_amounts.specs.Statements.{amount_text, take_text, put_text, first_text, next_text, held_text, held_cash_text}
 
 -- ---- the terms, the same of each table
 
@@ -55,6 +55,9 @@ take_terms = by_first ∷ by_second ∷ enough ∷ []
 
 abbrev pub next_terms : List Term
 next_terms = by_first ∷ above ∷ some ∷ []
+
+abbrev pub code_terms : List Term
+code_terms = equals 2 0 ∷ []
 
 abbrev pub first_terms : List Term
 first_terms = lit Null ∷ col 0 0 ∷ col 0 1 ∷ col 0 2 ∷ []
@@ -129,6 +132,22 @@ pub next_query : IsQuery next_text
 unfolding understood everything
 next_query = record { selects = refl; plain = (refl, refl); unlisted = refl }
 
+pub held_is : command_of (understood desk_schema held_text) ≡ Select (record { lets = []; body = plain (tree_of Balance) code_terms (col 1 3 ∷ []) }) (amount_name Balance ∷ [])
+unfolding understood everything
+held_is = refl
+
+pub held_query : IsQuery held_text
+unfolding understood everything
+held_query = record { selects = refl; plain = (refl, refl); unlisted = refl }
+
+pub held_cash_is : command_of (understood desk_schema held_cash_text) ≡ Select (record { lets = []; body = plain (tree_of Cash) code_terms (col 1 3 ∷ []) }) (amount_name Cash ∷ [])
+unfolding understood everything
+held_cash_is = refl
+
+pub held_cash_query : IsQuery held_cash_text
+unfolding understood everything
+held_cash_query = record { selects = refl; plain = (refl, refl); unlisted = refl }
+
 pub amount_whole : (ledger : Ledger) → IsWhole (amount_text ledger) 2
 unfolding understood everything
 amount_whole Balance = record { plain = (refl, refl); whole = refl; width_is = refl }
@@ -157,6 +176,14 @@ pub next_whole : IsWhole next_text 2
 unfolding understood everything
 next_whole = record { plain = (refl, refl); whole = refl; width_is = refl }
 
+pub held_whole : IsWhole held_text 1
+unfolding understood everything
+held_whole = record { plain = (refl, refl); whole = refl; width_is = refl }
+
+pub held_cash_whole : IsWhole held_cash_text 1
+unfolding understood everything
+held_cash_whole = record { plain = (refl, refl); whole = refl; width_is = refl }
+
 -- ---- the parameters are of the kinds that are compared and written
 
 pub amount_typed : (ledger : Ledger) (s t : List ℕ) → accepts_program desk_schema [] (plain (tree_of ledger) key_terms (col 1 3 ∷ [])) (Words s ∷ Words t ∷ []) ≡ true
@@ -176,3 +203,8 @@ put_typed Total s t d = refl
 
 pub next_typed : (s t : List ℕ) → accepts_program desk_schema [] (first_of 0 next_terms (col 1 2 ∷ col 1 3 ∷ []) (col 1 2) rising) (Words s ∷ Words t ∷ []) ≡ true
 next_typed s t = refl
+
+pub code_typed : (ledger : Ledger) (s : List ℕ) → accepts_program desk_schema [] (plain (tree_of ledger) code_terms (col 1 3 ∷ [])) (Words s ∷ []) ≡ true
+code_typed Balance s = refl
+code_typed Cash s = refl
+code_typed Total s = refl

@@ -138,7 +138,7 @@ put_among new (r ∷ rs) free = go (put_among new rs free.1) (value_cmp (rowid r
 abbrev first_recorded : Row → Texts → Option ℕ → Option ℕ
 first_recorded row texts others = cond (is_at texts row) (Some (amount_on row)) others
 
-recorded_cons : (r : Row) (rows : List Row) (texts : Texts) → recorded (r ∷ rows) texts ≡ first_recorded r texts (recorded rows texts)
+pub recorded_cons : (r : Row) (rows : List Row) (texts : Texts) → recorded (r ∷ rows) texts ≡ first_recorded r texts (recorded rows texts)
 recorded_cons r rows texts = elim (cases_Bool (is_at texts r)) [ inl here ↦ rw here refl | inr apart ↦ rw apart refl ]
 
 -- it does so wherever it stands, if it is apart from the others
@@ -191,7 +191,7 @@ passes p (x ∷ xs) r more h = elim (cases_Bool (p x)) [
   | inr apart ↦ (let e : filter p xs ≡ r ∷ more = rw apart at h in passes p xs r more e)
 ]
 
-none_at : (texts : Texts) (r : Row) (rows : List Row) → texts_in r ≡ texts → AllByRecursion (AreApart r) rows → filter (is_at texts) rows ≡ []
+pub none_at : (texts : Texts) (r : Row) (rows : List Row) → texts_in r ≡ texts → AllByRecursion (AreApart r) rows → filter (is_at texts) rows ≡ []
 none_at texts r [] is all = refl
 none_at texts r (s ∷ more) is all =
     let other : is_at texts s ≡ false = ap (same_texts (texts_in s)) (sym is) ∙ (flip_apart r s all.0).texts in

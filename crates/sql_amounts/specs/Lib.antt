@@ -3,3 +3,4 @@ pub mod Statements
 pub mod Amounts
 pub mod Changes
 pub mod Holdings
+pub mod Held

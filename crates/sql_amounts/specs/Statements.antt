@@ -25,3 +25,9 @@ first_text Total = codes "INSERT INTO total (subject, code, amount) VALUES (?1, 
 
 abbrev pub next_text : List ℕ
 next_text = codes "SELECT isin, quantity FROM balance WHERE account = ?1 AND isin > ?2 AND quantity > 0 ORDER BY isin LIMIT 1"
+
+abbrev pub held_text : List ℕ
+held_text = codes "SELECT quantity FROM balance WHERE isin = ?1"
+
+abbrev pub held_cash_text : List ℕ
+held_cash_text = codes "SELECT amount FROM cash WHERE currency = ?1"

@@ -98,6 +98,20 @@ pub finds_last_run : Finds last_run_text (col 1 0) falling (is_number 4 10 ∷ i
 unfolding understood everything
 finds_last_run = record { names = codes "day" ∷ []; is = refl; query = record { selects = refl; plain = (refl, refl); unlisted = refl } }
 
+-- ---- instructions that are opposite to one
+
+abbrev pub opposite_text : List ℕ
+opposite_text =
+    codes "SELECT number FROM register WHERE kind = 8 AND isin = ?1 AND day = ?2 AND quantity = ?3 AND sender = ?4 AND bic = ?5 AND mt = ?6 AND unit = ?7 AND currency = ?8 AND amount = ?9 AND number > ?10 ORDER BY number LIMIT 1"
+
+abbrev pub opposite_terms : List Term
+opposite_terms =
+    is_number 4 8 ∷ equals 8 0 ∷ equals 13 1 ∷ equals 10 2 ∷ equals 2 3 ∷ equals 6 4 ∷ equals 15 5 ∷ equals 9 6 ∷ equals 11 7 ∷ equals 12 8 ∷ is_above 0 9 ∷ []
+
+pub finds_opposite : Finds opposite_text (col 1 0) rising opposite_terms (col 1 0 ∷ [])
+unfolding understood everything
+finds_opposite = record { names = codes "number" ∷ []; is = refl; query = record { selects = refl; plain = (refl, refl); unlisted = refl } }
+
 -- ---- each is one whole statement, of so many parameters
 
 pub entry_of_participant_whole : IsWhole entry_of_participant_text 2
@@ -131,3 +145,7 @@ next_security_whole = record { plain = (refl, refl); whole = refl; width_is = re
 pub last_run_whole : IsWhole last_run_text 0
 unfolding understood everything
 last_run_whole = record { plain = (refl, refl); whole = refl; width_is = refl }
+
+pub opposite_whole : IsWhole opposite_text 10
+unfolding understood everything
+opposite_whole = record { plain = (refl, refl); whole = refl; width_is = refl }

@@ -7,6 +7,7 @@ pub mod FormedLemmas
 pub mod KeyLemmas
 pub mod LookLemmas
 pub mod NumberedLemmas
+pub mod OppositeLemmas
 pub mod ReadingLemmas
 pub mod RegisterLemmas
 pub mod RowLemmas

@@ -1,8 +1,9 @@
 -- Which rows of the register pass the tests of the texts.
-use Rattle.std.proofs.Common.{◌≡◌, ◌≢◌, ℕ, pos, List, [], ◌∷◌, Bool, true, false, not, ◌&&◌, nat_eq, Some, refl, ap, ◌∙◌, arith}
+use Rattle.std.proofs.Common.{◌≡◌, ◌≢◌, inl, inr, ℕ, pos, List, [], ◌∷◌, Bool, true, false, not, ◌&&◌, nat_eq, nat_lt, Some, refl, sym, ap, subst, ◌∙◌, arith}
 use Rattle.std.specs.Str.{bytes_eq}
 use Rattle.std.specs.Ordering.{is_ne, is_gt, nat_cmp, int_cmp}
 use Rattle.std.specs.Cmp.Lexicographic.{slice_cmp}
+use Rattle.std.proofs.lemmas.Bool.{le-ltb, lt-ltb}
 use Rattle.std.proofs.lemmas.Bool.Decides.{nat_tests}
 use Rattle.sqlite.specs.Order.{Row, value_cmp}
 use Rattle.sqlite_value.proofs.OrderLemmas.{value_cmp-Int}
@@ -15,7 +16,7 @@ use Rattle.desk_rules.specs.declared.history.entry.Sender.TheVariants.{Operator,
 use Rattle.desk_rules.specs.declared.answers.reply.Reply.{Reply}
 use Rattle.desk_rules.specs.History.{sender_of, reference_of, same_sender, has_key}
 use Rattle.sql_tables.specs.Queries.{passes_all, equals}
-use Rattle.sql_tables.proofs.ValueLemmas.{truth_of, and_true, equal_test, text_test, text_above_test}
+use Rattle.sql_tables.proofs.ValueLemmas.{truth_of, and_true, equal_test, number_equal, number_greater, number_less, text_test, text_above_test, three_ways}
 use Rattle.sql_entries.specs.Columns.{sender_text, kind_number, about_of}
 use Rattle.sql_entries.specs.Entries.{row_of}
 use Rattle.sql_entries.proofs.FindingTexts.{is_number, is_other, is_empty, is_above}
@@ -27,6 +28,16 @@ nat_unequal m n = grind (arith, nat_tests)
 
 other_test : (m n : ℕ) → is_true (from_truth (Some (is_ne (value_cmp (Int (pos m)) (Int (pos n)))))) ≡ not (nat_eq m n)
 other_test m n = truth_of (is_ne (value_cmp (Int (pos m)) (Int (pos n)))) ∙ ap is_ne (value_cmp-Int (pos m) (pos n)) ∙ nat_unequal m n
+
+number_above : (m n : ℕ) → is_gt (value_cmp (Int (pos m)) (Int (pos n))) ≡ nat_lt n m
+number_above m n = elim (three_ways m n) [
+  | inl low ↦ ap is_gt (number_less m n low) ∙ sym (le-ltb n m (omega (arith, low)))
+  | inr (inl same) ↦ subst (λ k. is_gt (value_cmp (Int (pos m)) (Int (pos k))) ≡ nat_lt k m) same (ap is_gt (number_equal m) ∙ sym (le-ltb m m (omega arith)))
+  | inr (inr high) ↦ ap is_gt (number_greater m n high) ∙ sym (lt-ltb n m high)
+]
+
+pub number_above_test : (m n : ℕ) → is_true (from_truth (Some (is_gt (value_cmp (Int (pos m)) (Int (pos n)))))) ≡ nat_lt n m
+number_above_test m n = truth_of (is_gt (value_cmp (Int (pos m)) (Int (pos n)))) ∙ number_above m n
 
 module _ (number : ℕ) (entry : Entry) (reply : Reply) where
   abbrev row : Row

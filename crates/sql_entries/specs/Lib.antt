@@ -3,3 +3,4 @@ pub mod Entries
 pub mod Filled
 pub mod Shown
 pub mod Reading
+pub mod Opposites

@@ -59,7 +59,7 @@ fn number_of_rule(rule: RunRule) -> u64
 }
 
 /// The quantity of an instruction.
-fn quantity(instruction: &Instruction) -> u64
+pub(crate) fn quantity(instruction: &Instruction) -> u64
     ensures quantity { result ≡ instruction.now.quantity }
     ensures fits { result < 2 ^ 63 }
 {

@@ -1,6 +1,6 @@
 //! The look-ups. Each fails as its statement does; a row that says nothing that the desk writes is told as a damaged
 //! database, `ErrorCode::DatabaseCorrupt`.
-ghost use Rattle.std.specs.Prelude.{◌≡◌, ℕ, List, Option, option_map, IfOk};
+ghost use Rattle.std.specs.Prelude.{◌≡◌, ◌<◌, ◌^◌, ℕ, List, Option, option_map, IfOk, IfSome};
 ghost use Rattle.desk_codes.specs.Number.{number_of};
 ghost use Rattle.desk_rules.specs.declared.answers.reply.Kept.{Kept};
 ghost use Rattle.desk_rules.specs.Facts.{is_participant, owner_of, kind_of, last_run};
@@ -8,12 +8,13 @@ ghost use Rattle.desk_rules.specs.History.{number_of_key};
 ghost use Rattle.desk_rules.specs.WellFormed.{AreWellFormed};
 ghost use Rattle.desk_register.specs.Looked.{IsSecurityAfter};
 ghost use Rattle.sql_entries.specs.Entries.{AreEntries, entries_in};
+ghost use Rattle.sql_entries.specs.Opposites.{IsNextOpposite};
 ghost use Rattle.sql_tables.specs.Rows.{number_rows, text_rows};
 ghost use Rattle.sql_tables.specs.Calls.{FailsForCause, Looks, Soundly, tables};
 
 use crate::texts;
 use desk_codes::{AccountId, Bic, Day, Isin, Reference};
-use desk_msg::Kind;
+use desk_msg::{Instruction, Kind};
 use desk_rules::Sender;
 use sql_tables::rows::{is_shown, only_bic, only_day, only_isin, only_kind, only_number};
 use sqlite::{Alter, Connection, Error, Row};
@@ -114,4 +115,22 @@ pub fn last_run<S: Alter>(conn: &mut Connection<S>) -> Result<Option<Day>, Error
 {
     let rows = texts::last_run_day(conn)?;
     only_day(&rows)
+}
+
+/// The least number above one of an instruction that is opposite to this one of its sender, whether it waits or not; None
+/// where there is none.
+pub fn next_opposite<S: Alter>(
+    conn: &mut Connection<S>,
+    sender: Bic,
+    instruction: &Instruction,
+    after: u64,
+) -> Result<Option<u64>, Error>
+    requires { after < 2 ^ 63 }
+    ensures value { Soundly S.Store conn.old conn.new ((register : List Kept) → AreEntries (tables S.Store conn.old) register → IfOk result (λ r. IsNextOpposite (entries_in register) (record { sender = sender; instruction = instruction.now }) after r)) }
+    ensures small { Soundly S.Store conn.old conn.new ((register : List Kept) → AreEntries (tables S.Store conn.old) register → IfOk result (λ r. IfSome r (λ n. n < 2 ^ 63))) }
+    ensures look { Looks S.Store conn.old conn.new result }
+    ensures blame { Soundly S.Store conn.old conn.new ((register : List Kept) → AreEntries (tables S.Store conn.old) register → FailsForCause S.Store conn.old conn.new result) }
+{
+    let rows = texts::opposite_above(conn, sender, instruction, after)?;
+    only_number(&rows)
 }

@@ -15,13 +15,16 @@ mod instruction;
 mod keyed;
 mod kind;
 mod looking;
+mod opposite;
 mod places;
 mod texts;
 mod values;
 
 pub use adding::add_entry;
 pub use entry::entry_in;
-pub use finding::{is_participant, kind_of, last_run, number_of, owner_of, security_after};
+pub use finding::{
+    is_participant, kind_of, last_run, next_opposite, number_of, owner_of, security_after,
+};
 pub use kind::{
     ACCOUNT, CANCELLATION, INSTRUCTION, ISSUE, PARTICIPANT, PAY_IN, PAY_OUT, REDEMPTION, RUN,
     SECURITY,

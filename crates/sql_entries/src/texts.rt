@@ -1,5 +1,5 @@
 //! The statements, and what each shows.
-ghost use Rattle.std.specs.Prelude.{◌≡◌, if◌then◌else◌, ℕ, List, Option, option_map, IfOk, IfSome};
+ghost use Rattle.std.specs.Prelude.{◌≡◌, ◌<◌, ◌^◌, if◌then◌else◌, ℕ, List, Option, option_map, IfOk, IfSome};
 ghost use Rattle.desk_codes.specs.Day.{IsDay};
 ghost use Rattle.desk_codes.specs.Number.{number_of};
 ghost use Rattle.desk_msg.specs.Profile.{code_of_kind};
@@ -9,10 +9,13 @@ ghost use Rattle.desk_rules.specs.History.{number_of_key};
 ghost use Rattle.desk_rules.specs.WellFormed.{AreWellFormed};
 ghost use Rattle.desk_register.specs.Looked.{IsSecurityAfter};
 ghost use Rattle.sql_entries.specs.Entries.{AreEntries, entries_in};
+ghost use Rattle.sql_entries.specs.Opposites.{IsNextOpposite};
 ghost use Rattle.sql_tables.specs.Rows.{number_rows, text_rows};
 ghost use Rattle.sql_tables.specs.Calls.{FailsForCause, Looks, Soundly, tables};
 
+use crate::opposite::values_asked;
 use desk_codes::{AccountId, Bic, Isin, Reference};
+use desk_msg::Instruction;
 use desk_rules::Sender;
 use sql_tables::statement::query;
 use sqlite::types::ValueRef;
@@ -130,5 +133,25 @@ pub fn last_run_day<S: Alter>(conn: &mut Connection<S>) -> Result<Vec<Row>, Erro
         conn,
         "SELECT day FROM register WHERE kind = 10 AND about = '' ORDER BY number DESC LIMIT 1",
         &[],
+    )
+}
+
+/// The number of the first instruction above a number that is opposite to this one of this sender.
+pub fn opposite_above<S: Alter>(
+    conn: &mut Connection<S>,
+    sender: Bic,
+    instruction: &Instruction,
+    after: u64,
+) -> Result<Vec<Row>, Error>
+    requires { after < 2 ^ 63 }
+    ensures shown { Soundly S.Store conn.old conn.new ((register : List Kept) → AreEntries (tables S.Store conn.old) register → IfOk result (λ rows. (found : Option ℕ) × (rows.items ≡ number_rows found) × IsNextOpposite (entries_in register) (record { sender = sender; instruction = instruction.now }) after found)) }
+    ensures look { Looks S.Store conn.old conn.new result }
+    ensures blame { Soundly S.Store conn.old conn.new (FailsForCause S.Store conn.old conn.new result) }
+{
+    let asked = values_asked(&sender, instruction, after);
+    query(
+        conn,
+        "SELECT number FROM register WHERE kind = 8 AND isin = ?1 AND day = ?2 AND quantity = ?3 AND sender = ?4 AND bic = ?5 AND mt = ?6 AND unit = ?7 AND currency = ?8 AND amount = ?9 AND number > ?10 ORDER BY number LIMIT 1",
+        &asked,
     )
 }

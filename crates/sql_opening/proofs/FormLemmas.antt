@@ -21,7 +21,7 @@ use Rattle.sqlite_schema.specs.Names.{is_key}
 use Rattle.sqlite_schema.specs.Rules.{agree, are_present, are_typed, clashes, differ, guards, has_computed, is_of, passes, suits, Obeys}
 use Rattle.sqlite_sql.specs.Ops.{is_null, is_true, from_truth, test}
 use Rattle.sqlite_sql.specs.declared.ops.CompareOp.TheVariants.{Ne}
-use Rattle.sql_tables.specs.Schema.{desk_indexes, desk_schema, desk_tables, balance_table, cash_table, total_table, register_table, state_table, unmatched_table, due_table, sent_table, version_table}
+use Rattle.sql_tables.specs.Schema.{desk_indexes, desk_schema, desk_tables, balance_table, cash_table, total_table, register_table, state_table, sent_table, version_table}
 use Rattle.sql_opening.specs.Forms.{AreAllFormed, AreValues, HasForm, MayStand}
 use Rattle.sql_opening.specs.Order.{AreInOrder}
 
@@ -243,16 +243,10 @@ module _ (trees : Trees) (obeys : Obeys desk_schema trees) (order : AreInOrder d
               (
                 record { each = rows_formed state_table (inr (inr (inr (inr (inl refl))))) refl typed.1.1.1.1.0 present.1.1.1.1.0; keyed = tt },
                 (
-                  record { each = rows_formed unmatched_table (inr (inr (inr (inr (inr (inl refl)))))) refl typed.1.1.1.1.1.0 present.1.1.1.1.1.0; keyed = tt },
+                  record { each = rows_formed sent_table (inr (inr (inr (inr (inr (inl refl)))))) refl typed.1.1.1.1.1.0 present.1.1.1.1.1.0; keyed = tt },
                   (
-                    record { each = rows_formed due_table (inr (inr (inr (inr (inr (inr (inl refl))))))) refl typed.1.1.1.1.1.1.0 present.1.1.1.1.1.1.0; keyed = tt },
-                    (
-                      record { each = rows_formed sent_table (inr (inr (inr (inr (inr (inr (inr (inl refl)))))))) refl typed.1.1.1.1.1.1.1.0 present.1.1.1.1.1.1.1.0; keyed = (rows_apart sent_table (inr (inr (inr (inr (inr (inr (inr (inl refl)))))))) _ (inr (inr (inr (inr (inl refl))))) refl unique.1.1.1.1.1.1.1.0, tt) },
-                      (
-                        record { each = rows_formed version_table (inr (inr (inr (inr (inr (inr (inr (inr (inl refl))))))))) refl typed.1.1.1.1.1.1.1.1.0 present.1.1.1.1.1.1.1.1.0; keyed = tt },
-                        tt,
-                      ),
-                    ),
+                    record { each = rows_formed version_table (inr (inr (inr (inr (inr (inr (inl refl))))))) refl typed.1.1.1.1.1.1.0 present.1.1.1.1.1.1.0; keyed = tt },
+                    tt,
                   ),
                 ),
               ),

@@ -43,6 +43,6 @@ pub record AreFormed (table : Table) (rows : List Row) : Type 0 where
   pub each : AllByRecursion (HasForm table) rows
   pub keyed : AreKeyed table rows
 
--- so it is of all nine tables
+-- so it is of all tables
 abbrev pub AreAllFormed : Trees → Type 0
 AreAllFormed trees = AllByRecursion (λ table. AreFormed table (trees table.tree)) desk_tables

@@ -1,5 +1,5 @@
 -- The tables and the indexes that are told by an outline.
-use Rattle.std.specs.Prelude.{◌≡◌, ℕ, false, not, if◌then◌else◌, List, [], ◌∷◌, Option, Some, None, map}
+use Rattle.std.specs.Prelude.{◌≡◌, ℕ, true, false, not, if◌then◌else◌, List, [], ◌∷◌, Option, Some, None, map}
 use Rattle.sqlite.specs.Table.{Table}
 use Rattle.sqlite_schema.specs.declared.schema.Index.{Index}
 use Rattle.sqlite_value.specs.declared.keys.Order.{Order}
@@ -43,4 +43,4 @@ table_wanted wanted = record {
 }
 
 abbrev pub index_wanted : WantedIndex → Index
-index_wanted wanted = record { name = wanted.name.now; tree = wanted.tree; table = wanted.table; columns = wanted.columns.now; order = ascending; is_unique = wanted.is_unique }
+index_wanted wanted = record { name = wanted.name.now; tree = wanted.tree; table = wanted.table; columns = wanted.columns.now; order = ascending; is_unique = true }

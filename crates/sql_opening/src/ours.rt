@@ -49,25 +49,9 @@ const STATE: [WantedColumn<'static>; 5] = [
     Number("asked"),
 ];
 
-const UNMATCHED: [WantedColumn<'static>; 10] = [
-    Optional("number"),
-    Text("isin"),
-    Text("day"),
-    Number("quantity"),
-    Text("sender"),
-    Text("counterparty"),
-    Number("mt"),
-    Text("unit"),
-    Text("currency"),
-    Number("amount"),
-];
-
-const DUE: [WantedColumn<'static>; 1] = [Optional("place")];
-
-const SENT: [WantedColumn<'static>; 6] = [
+const SENT: [WantedColumn<'static>; 5] = [
     Optional("number"),
     Text("bic"),
-    Number("place"),
     Number("mt"),
     Number("about"),
     Text("text"),
@@ -117,29 +101,15 @@ fn are_desk_tables(tables: &[Table]) -> bool
                 unique: None,
             },
             WantedTable {
-                name: "unmatched",
-                tree: 9,
-                columns: &UNMATCHED,
-                is_numbered: true,
-                unique: None,
-            },
-            WantedTable {
-                name: "due",
-                tree: 10,
-                columns: &DUE,
-                is_numbered: true,
-                unique: None,
-            },
-            WantedTable {
                 name: "sent",
-                tree: 11,
+                tree: 9,
                 columns: &SENT,
                 is_numbered: true,
-                unique: Some((2, 3)),
+                unique: None,
             },
             WantedTable {
                 name: "version",
-                tree: 13,
+                tree: 10,
                 columns: &VERSION,
                 is_numbered: true,
                 unique: None,
@@ -159,62 +129,30 @@ fn are_desk_indexes(indexes: &[Index]) -> bool
                 tree: 1,
                 table: 0,
                 columns: &[1, 2],
-                is_unique: true,
             },
             WantedIndex {
                 name: "sqlite_autoindex_cash_1",
                 tree: 3,
                 table: 2,
                 columns: &[1, 2],
-                is_unique: true,
             },
             WantedIndex {
                 name: "sqlite_autoindex_total_1",
                 tree: 5,
                 table: 4,
                 columns: &[1, 2],
-                is_unique: true,
             },
             WantedIndex {
                 name: "sqlite_autoindex_register_1",
                 tree: 7,
                 table: 6,
                 columns: &[2, 3],
-                is_unique: true,
-            },
-            WantedIndex {
-                name: "sqlite_autoindex_sent_1",
-                tree: 12,
-                table: 11,
-                columns: &[2, 3],
-                is_unique: true,
-            },
-            WantedIndex {
-                name: "register_about",
-                tree: 14,
-                table: 6,
-                columns: &[4, 5],
-                is_unique: false,
-            },
-            WantedIndex {
-                name: "unmatched_key",
-                tree: 15,
-                table: 9,
-                columns: &[2, 3, 4, 5, 6, 7, 8, 9, 10],
-                is_unique: false,
-            },
-            WantedIndex {
-                name: "sent_about",
-                tree: 16,
-                table: 11,
-                columns: &[5],
-                is_unique: false,
             },
         ],
     )
 }
 
-/// Whether a schema is the desk's: its tables, in their order, then its indexes, and nothing else.
+/// Whether a schema is the desk's: its tables, in their order, the indexes of their keys, and nothing else.
 pub fn is_desk(schema: &Schema) -> bool
     ensures { IsTrue result ↔ (schema.now ≡ desk_schema) }
 {

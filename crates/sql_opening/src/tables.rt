@@ -22,7 +22,7 @@ pub struct WantedTable<'a> {
     pub unique: Option<(usize, usize)>,
 }
 
-/// What an index of the desk is told by.
+/// What the index of a key is told by.
 #[derive(Clone, Copy)]
 pub struct WantedIndex<'a> {
     pub name: &'a str,
@@ -31,7 +31,6 @@ pub struct WantedIndex<'a> {
     pub table: u32,
     /// The places of its columns
     pub columns: &'a [usize],
-    pub is_unique: bool,
 }
 
 /// Whether the rows are numbered, or keyed by the first two columns.
@@ -131,7 +130,7 @@ fn is_index(index: &Index, wanted: &WantedIndex<'_>) -> bool
         && index.table == wanted.table
         && index.columns.as_slice() == wanted.columns
         && index.order.digits == 0
-        && index.is_unique == wanted.is_unique
+        && index.is_unique
 }
 
 /// Whether these are the indexes, in this order.

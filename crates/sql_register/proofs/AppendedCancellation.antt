@@ -23,17 +23,15 @@ use Rattle.desk_rules.specs.Verdict.{if_of_type, named_by}
 use Rattle.sql_standings.proofs.StandingLemmas.{same_standings, same_standing_in}
 use Rattle.sql_standings.specs.Standings.{AreStandings, StandingsChanged, standing_in}
 use Rattle.sql_tables.specs.Schema.{desk_schema}
-use Rattle.sql_standings.proofs.UnmatchedLaws.{noted_same, same_unmatched}
 use Rattle.sql_register.specs.Content.{content_in}
-use Rattle.desk_rules.specs.Unmatched.{unmatched_in}
 use Rattle.sql_register.specs.Holds.{Becomes, IsDesk}
 use Rattle.sql_register.proofs.AppendedAmounts.{cash_same, securities_same, totals_of}
 use Rattle.sql_register.proofs.AppendedContent.{takes_entry}
-use Rattle.sql_register.proofs.AppendedHistory.{requested_known, stands_same, unmatched_same}
+use Rattle.sql_register.proofs.AppendedHistory.{requested_known, stands_same}
 use Rattle.sql_register.proofs.AppendedRow.{row_moves}
 use Rattle.sql_register.proofs.CauseLemmas.{above, below}
 use Rattle.sql_register.proofs.ContentLemmas.{same_totals}
-use Rattle.sql_register.proofs.FrameLemmas.{balance_spared, cash_spared, total_spared, register_spared, unmatched_spared, due_spared, sent_spared}
+use Rattle.sql_register.proofs.FrameLemmas.{balance_spared, cash_spared, total_spared, register_spared, sent_spared}
 use Rattle.desk_register.proofs.RegisteredLemmas.{names_one}
 
 of_type_some : (mt k : ℕ) (o : Option Instructed) → is_none (if_of_type mt k o) ≡ false → if_of_type mt k o ≡ Some k
@@ -110,9 +108,6 @@ module _ (old d1 : Database) (sender : List ℕ) (order : CancelOrder) (reply : 
               ∙ ap (λ s. with_request (Some k) s) (same_standing_in d1 old row.standings)
               ∙ ap (λ o. with_request o before.standing) (sym asked)
               ∙ (λ j n. stands_same before entry reply desk.instructions refl n j);
-          unmatched = noted_same new (unmatched_in before) (unmatched_in (appended entry reply before)) (unmatched_same before entry reply refl)
-              (same_unmatched old new (unmatched_in before) (sym (unmatched_spared d1 new 8 9 stood.others (inr (omega arith)) ∙ row.unmatched)) desk.unmatched);
-          due = due_spared d1 new 8 9 stood.others (inr (omega arith)) ∙ row.due;
           messages = sent_spared d1 new 8 9 stood.others (inr (omega arith)) ∙ row.messages;
           within = added.within;
           formed = added.formed;

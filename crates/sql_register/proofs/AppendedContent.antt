@@ -1,5 +1,5 @@
 -- What the tables have become says the content with one entry more.
-use Rattle.std.proofs.Common.{◌≡◌, sym, ap, subst, ◌∙◌, ℕ, ◌+◌, ◌<◌, List, [], ◌∷◌, length, length-append, map, true, arith}
+use Rattle.std.proofs.Common.{◌≡◌, sym, ap, subst, ◌∙◌, ℕ, ◌+◌, ◌<◌, List, [], ◌∷◌, length, length-append, map, arith}
 use Rattle.sqlite.specs.Effect.{Database}
 use Rattle.sql_amounts.specs.Amounts.{AreAmounts}
 use Rattle.desk_codes.specs.declared.currency.Ccy.{Ccy}
@@ -13,15 +13,12 @@ use Rattle.desk_rules.specs.WellFormed.{AreWellFormed, IsWellFormed}
 use Rattle.desk_rules.proofs.WellFormedLemmas.{formed_push}
 use Rattle.sql_sent.proofs.RowLemmas.{all_more}
 use Rattle.sql_sent.proofs.TableLemmas.{same_sent}
-use Rattle.sql_standings.proofs.DueLemmas.{same_due, same_due_in}
 use Rattle.sql_standings.specs.Standings.{AreStandings, standing_in}
 use Rattle.sql_tables.specs.Schema.{desk_schema}
-use Rattle.sql_standings.specs.Unmatched.{AreUnmatched}
 use Rattle.sql_register.specs.Content.{content_in}
-use Rattle.desk_rules.specs.Unmatched.{unmatched_in}
 use Rattle.sql_register.specs.Holds.{Becomes, IsDesk, Keeps}
 use Rattle.sql_register.specs.RowsSaid.{kept_in, sent_in}
-use Rattle.sql_register.proofs.AppendedHistory.{instructions_more, pair_after, pair_before, stands_more}
+use Rattle.sql_register.proofs.AppendedHistory.{instructions_more, stands_more}
 use Rattle.sql_register.proofs.AppendedTotals.{TotalsMore, registered_more, totals_more}
 use Rattle.sql_register.proofs.ContentLemmas.{by_parts}
 use Rattle.desk_register.proofs.AddsUpLemmas.{longer}
@@ -39,9 +36,7 @@ pub record TakesEntry (old new : Database) (entry : Entry) (reply : Reply) : Typ
   pub named : (account : List ℕ) → positions_after entry (content_in old).position account [] ≡ 0
   pub standings : AreStandings new
   pub standing_is : standing_in new ≡ (appended entry reply (content_in old)).standing
-  pub unmatched : AreUnmatched new (unmatched_in (appended entry reply (content_in old)))
-  pub due : new.trees 10 ≡ old.trees 10
-  pub messages : new.trees 11 ≡ old.trees 11
+  pub messages : new.trees 9 ≡ old.trees 9
   pub within : length (content_in old).register + 1 < 1_000_000_000
   pub formed : IsWellFormed entry
   pub short : HasShortNumbers reply
@@ -59,10 +54,6 @@ takes_entry old new entry reply room desk can takes =
       entries = takes.entries;
       standings = takes.standings;
       instructions = instructions_more before entry reply desk.instructions;
-      unmatched = takes.unmatched;
-      due_rows = same_due old new (sym takes.due) desk.due_rows;
-      due = λ place is. pair_after before entry reply place (desk.due place (subst (λ f. f place ≡ true) (same_due_in new old takes.due) is));
-      due_all = λ place pair. subst (λ f. f place ≡ true) (sym (same_due_in new old takes.due)) (desk.due_all place (pair_before before entry reply place pair));
       sent = same_sent old new takes.messages before.sent desk.sent;
       totals = totals_more old new before desk.totals desk.registered entry reply well can.balances takes.totals;
       registered = registered_more old new before desk.totals desk.registered entry reply well can.balances takes.totals;

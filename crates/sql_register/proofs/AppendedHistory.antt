@@ -1,4 +1,4 @@
--- What the history says with one entry more: which number instructs, what is unmatched, which pairs are matched.
+-- What the history says with one entry more: which number instructs, and where each instruction stands.
 use Rattle.std.proofs.Common.{◌≡◌, ◌≢◌, ◌⊎◌, inl, inr, refl, sym, ap, ◌∙◌, ℕ, ◌+◌, ◌<◌, ◌==◌, cond, true, false, List, [], ◌∷◌, ◌++◌, length, Option, None, Some, arith, eq-eqb, eqb-true, length-append}
 use Rattle.std.specs.Prelude.{option_and_then}
 use Rattle.std.proofs.lemmas.Bool.{cases_Bool, cases_lt}
@@ -6,12 +6,10 @@ use Rattle.std.proofs.lemmas.List.{length-map}
 use Rattle.desk_rules.specs.declared.history.entry.Entry.{Entry}
 use Rattle.desk_rules.specs.declared.history.entry.Entry.TheVariants.{Participant, Account, Security, Issue, Redeem, PayIn, PayOut, Instruct, Cancel, Run}
 use Rattle.desk_rules.specs.declared.history.entry.Instructed.{Instructed}
-use Rattle.desk_rules.specs.declared.history.pair.Place.{Place}
 use Rattle.desk_rules.specs.declared.answers.reply.Kept.{Kept}
 use Rattle.desk_rules.specs.declared.answers.reply.Reply.{Reply}
 use Rattle.desk_rules.specs.declared.history.standing.Standing.{Standing}
-use Rattle.desk_rules.specs.declared.history.standing.State.{State}
-use Rattle.desk_rules.specs.declared.history.standing.State.TheVariants.{Cancelled, Matched, NoInstruction, Settled, Unmatched}
+use Rattle.desk_rules.specs.declared.history.standing.State.TheVariants.{NoInstruction}
 use Rattle.desk_rules.specs.Content.{Content, history_of}
 use Rattle.desk_rules.specs.declared.history.entry.Sender.TheVariants.{Participant as FromParticipant}
 use Rattle.desk_rules.specs.History.{instructed, instruction_at, number_of_key}
@@ -20,10 +18,8 @@ use Rattle.desk_rules.specs.Verdict.{if_of_type}
 use Rattle.desk_rules.proofs.HistoryLemmas.{entry_at-end, instruction_at-front, instruction_at-known, some_before}
 use Rattle.desk_msg.specs.MessageType.{number_of_type}
 use Rattle.desk_register.specs.Changes.{appended, first_standing, requested_by, requests_noted, with_request}
-use Rattle.desk_register.specs.Looked.{IsMatchedPair}
 use Rattle.desk_register.proofs.AddsUpLemmas.{longer}
 use Rattle.desk_register.proofs.CaseLemmas.{by_bool}
-use Rattle.desk_rules.specs.Unmatched.{if_unmatched, unmatched_in}
 
 -- ---- the instruction whose cancellation is requested
 
@@ -57,13 +53,6 @@ module _ (standing : ℕ → Standing) where
     | inr apart ↦ ap (λ b. part (cond b (record (standing k) { cancel_requested = true }) (standing n))) apart
   ]
 
-no_unmatched : (state : State) → if_unmatched state None ≡ None
-no_unmatched NoInstruction = refl
-no_unmatched Unmatched = refl
-no_unmatched (Matched reason) = refl
-no_unmatched Cancelled = refl
-no_unmatched Settled = refl
-
 -- no instruction has a number past the last
 beyond : (h : List Entry) (n : ℕ) → length h < n → instruction_at h n ≡ None
 beyond h n past = go (instruction_at h n) refl
@@ -71,18 +60,6 @@ beyond h n past = go (instruction_at h n) refl
     go : (o : Option Instructed) → instruction_at h n ≡ o → o ≡ None
     go None is = refl
     go (Some i) is = absurd (let known = instruction_at-known h n i is in omega (arith, known.1))
-
-never_matched : (e : Entry) → (s : State) → (first_standing e).state ≡ s → (s ≡ NoInstruction) ⊎ (s ≡ Unmatched)
-never_matched (Participant reference bic) s is = inl (sym is)
-never_matched (Account reference bic account) s is = inl (sym is)
-never_matched (Security reference isin kind) s is = inl (sym is)
-never_matched (Issue movement) s is = inl (sym is)
-never_matched (Redeem movement) s is = inl (sym is)
-never_matched (PayIn payment) s is = inl (sym is)
-never_matched (PayOut payment) s is = inl (sym is)
-never_matched (Instruct sender instruction) s is = inr (sym is)
-never_matched (Cancel sender order) s is = inl (sym is)
-never_matched (Run reference day rule) s is = inl (sym is)
 
 first_none : (e : Entry) → instructed e ≡ None → first_standing e ≡ no_standing
 first_none (Participant reference bic) is = refl
@@ -146,65 +123,6 @@ module _ (content : Content) (e : Entry) (reply : Reply) where
 
   stands_front : (n : ℕ) → (n == last) ≡ false → after.standing n ≡ noted n
   stands_front n apart = ap (λ b. cond b (first_standing e) (noted n)) apart
-
-  -- what is unmatched
-  pub unmatched_last : (n : ℕ) → (n == last) ≡ true → unmatched_in after n ≡ if_unmatched (first_standing e).state (instructed e)
-  unmatched_last n here =
-      ap (λ (s : Standing). if_unmatched s.state (instruction_at (history_of after) n)) (stands_last n here)
-      ∙ ap (if_unmatched (first_standing e).state) (ap (instruction_at (history_of after)) (eqb-true n last here) ∙ at_last)
-
-  pub unmatched_front : (n : ℕ) → (n == last) ≡ false → unmatched_in after n ≡ unmatched_in content n
-  unmatched_front n apart =
-      ap (λ (s : Standing). if_unmatched s.state (instruction_at (history_of after) n)) (stands_front n apart)
-      ∙ ap (λ s. if_unmatched s (instruction_at (history_of after) n)) (noted_part content.standing (λ s. s.state) (λ s. refl) (requested_by h e) n)
-      ∙ ap (if_unmatched (content.standing n).state) (at_front n apart)
-
-  pub none_unmatched : unmatched_in content last ≡ None
-  none_unmatched = ap (if_unmatched (content.standing last).state) none_last ∙ no_unmatched (content.standing last).state
-
-  -- nothing more is unmatched, where the entry instructs nothing
-  pub unmatched_same : if_unmatched (first_standing e).state (instructed e) ≡ None → (n : ℕ) → unmatched_in content n ≡ unmatched_in after n
-  unmatched_same none n = elim (cases_Bool (n == last)) [
-    | inl here ↦ ap (unmatched_in content) (eqb-true n last here) ∙ none_unmatched ∙ sym (unmatched_last n here ∙ none)
-    | inr apart ↦ sym (unmatched_front n apart)
-  ]
-
-  -- what is matched
-  pub pair_before : (place : Place) → IsMatchedPair after place → IsMatchedPair content place
-  pair_before place pair = elim (cases_Bool (place.number == last)) [
-    | inl here ↦ absurd (
-        let first : (first_standing e).state ≡ Matched pair.reason = ap (λ (s : Standing). s.state) (sym (stands_last place.number here)) ∙ pair.matched in
-        elim (never_matched e (Matched pair.reason) first) [ inl bad ↦ (let it : ⊥ = cc in it) | inr bad ↦ (let it : ⊥ = cc in it) ])
-    | inr apart ↦
-        let stands = stands_front place.number apart in
-        record {
-          later = pair.later;
-          mate = pair.mate;
-          reason = pair.reason;
-          is_later = sym (at_front place.number apart) ∙ pair.is_later;
-          has_mate = sym (ap (λ (s : Standing). s.mate) stands ∙ noted_part content.standing (λ s. s.mate) (λ s. refl) (requested_by h e) place.number) ∙ pair.has_mate;
-          is_earlier = pair.is_earlier;
-          matched = sym (ap (λ (s : Standing). s.state) stands ∙ noted_part content.standing (λ s. s.state) (λ s. refl) (requested_by h e) place.number) ∙ pair.matched;
-          day = pair.day;
-        }
-  ]
-
-  pub pair_after : (place : Place) → IsMatchedPair content place → IsMatchedPair after place
-  pair_after place pair = elim (cases_Bool (place.number == last)) [
-    | inl here ↦ absurd (let e = sym pair.is_later ∙ ap (instruction_at h) (eqb-true place.number last here) ∙ none_last in cc)
-    | inr apart ↦
-        let stands = stands_front place.number apart in
-        record {
-          later = pair.later;
-          mate = pair.mate;
-          reason = pair.reason;
-          is_later = at_front place.number apart ∙ pair.is_later;
-          has_mate = ap (λ (s : Standing). s.mate) stands ∙ noted_part content.standing (λ s. s.mate) (λ s. refl) (requested_by h e) place.number ∙ pair.has_mate;
-          is_earlier = pair.is_earlier;
-          matched = ap (λ (s : Standing). s.state) stands ∙ noted_part content.standing (λ s. s.state) (λ s. refl) (requested_by h e) place.number ∙ pair.matched;
-          day = pair.day;
-        }
-  ]
 
   -- each instruction stands somewhere
   pub stands_more : ((n : ℕ) (i : Instructed) → instruction_at h n ≡ Some i → (content.standing n).state ≢ NoInstruction) → (n : ℕ) (i : Instructed) → instruction_at (history_of after) n ≡ Some i → (after.standing n).state ≢ NoInstruction

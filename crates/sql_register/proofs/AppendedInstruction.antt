@@ -1,6 +1,5 @@
--- An instruction more: its row, where it stands, and that it is unmatched.
-use Rattle.std.proofs.Common.{◌≡◌, inl, inr, refl, sym, ap, ◌∙◌, ℕ, ◌+◌, ◌==◌, cond, length, Some, arith}
-use Rattle.std.proofs.lemmas.Bool.{cases_Bool}
+-- An instruction more: its row, and that it stands unmatched.
+use Rattle.std.proofs.Common.{◌≡◌, inl, inr, refl, sym, ap, ◌∙◌, ℕ, ◌+◌, length, arith}
 use Rattle.sqlite.specs.Effect.{Database}
 use Rattle.sql_amounts.proofs.AmountLemmas.{SameAmounts, same_amounts}
 use Rattle.sql_entries.specs.Entries.{with_entry}
@@ -17,17 +16,14 @@ use Rattle.desk_rules.specs.declared.history.standing.State.TheVariants.{NoInstr
 use Rattle.sql_standings.proofs.StandingLemmas.{same_standings, same_standing_in}
 use Rattle.sql_standings.specs.Standings.{AreStandings, StandingsChanged, fresh_standing, standing_in}
 use Rattle.sql_tables.specs.Schema.{desk_schema}
-use Rattle.sql_standings.specs.Unmatched.{AreUnmatched, Notes, noting}
-use Rattle.sql_standings.proofs.UnmatchedLaws.{noted_same, same_unmatched}
 use Rattle.sql_register.specs.Content.{content_in}
-use Rattle.desk_rules.specs.Unmatched.{unmatched_in}
 use Rattle.sql_register.specs.Holds.{Becomes, IsDesk}
 use Rattle.sql_register.proofs.AppendedAmounts.{cash_same, securities_same, totals_of}
 use Rattle.sql_register.proofs.AppendedContent.{takes_entry}
-use Rattle.sql_register.proofs.AppendedHistory.{none_last, unmatched_front, unmatched_last}
+use Rattle.sql_register.proofs.AppendedHistory.{none_last}
 use Rattle.sql_register.proofs.AppendedRow.{row_moves}
 use Rattle.sql_register.proofs.ContentLemmas.{same_totals}
-use Rattle.sql_register.proofs.FrameLemmas.{balance_spared, cash_spared, total_spared, register_spared, state_spared, unmatched_spared, due_spared, sent_spared}
+use Rattle.sql_register.proofs.FrameLemmas.{balance_spared, cash_spared, total_spared, register_spared, sent_spared}
 
 module _ (old d1 : Database) (i : Instructed) (reply : Reply) (room : ℕ) (desk : IsDesk old) where
   abbrev entry : Entry
@@ -39,50 +35,35 @@ module _ (old d1 : Database) (i : Instructed) (reply : Reply) (room : ℕ) (desk
   abbrev last : ℕ
   last = length before.register + 1
 
-  noted_last : (n : ℕ) → noting (unmatched_in before) last i n ≡ unmatched_in (appended entry reply before) n
-  noted_last n = elim (cases_Bool (n == last)) [
-    | inl here ↦ ap (λ b. cond b (Some i) (unmatched_in before n)) here ∙ sym (unmatched_last before entry reply n here)
-    | inr apart ↦ ap (λ b. cond b (Some i) (unmatched_in before n)) apart ∙ sym (unmatched_front before entry reply n apart)
-  ]
-
   module _ (can : CanAppend room entry reply before) (added : RowAdded old d1 before.register entry reply) where
     pub row_standings : AreStandings d1
     row_standings = same_standings old d1 (sym (row_moves old d1 entry reply added).standings) desk.standings
 
-    -- its number stands nowhere yet, and is not noted
+    -- its number stands nowhere yet
     pub none_yet : (standing_in d1 last).state ≡ NoInstruction
     none_yet =
         ap (λ (f : ℕ → Standing). (f last).state) (same_standing_in d1 old (row_moves old d1 entry reply added).standings) ∙ ap (λ (s : Standing). s.state) (desk.instructions last (none_last before entry reply))
 
-    pub row_unmatched : (d2 : Database) (standings : ℕ → Standing) → StandingsChanged d1 d2 standings → AreUnmatched d2 (unmatched_in before)
-    row_unmatched d2 standings stood =
-        same_unmatched old d2 (unmatched_in before) (sym (unmatched_spared d1 d2 8 9 stood.others (inr (omega arith)) ∙ (row_moves old d1 entry reply added).unmatched)) desk.unmatched
-
-    pub instruct_becomes : (d2 new : Database) → StandingsChanged d1 d2 (standing_at (standing_in d1) last fresh_standing) → Notes d2 new last i → new.schema ≡ desk_schema → Becomes new (appended entry reply before)
-    instruct_becomes d2 new stood noted schema =
+    pub instruct_becomes : (new : Database) → StandingsChanged d1 new (standing_at (standing_in d1) last fresh_standing) → new.schema ≡ desk_schema → Becomes new (appended entry reply before)
+    instruct_becomes new stood schema =
         let row = row_moves old d1 entry reply added in
         let same : SameAmounts old new = same_totals old new
-        (balance_spared d2 new 9 10 noted.spares (inl (omega arith)) ∙ balance_spared d1 d2 8 9 stood.others (inl (omega arith)) ∙ balance_spared old d1 6 8 added.spares (inl (omega arith)))
-        (cash_spared d2 new 9 10 noted.spares (inl (omega arith)) ∙ cash_spared d1 d2 8 9 stood.others (inl (omega arith)) ∙ cash_spared old d1 6 8 added.spares (inl (omega arith)))
-        (total_spared d2 new 9 10 noted.spares (inl (omega arith)) ∙ total_spared d1 d2 8 9 stood.others (inl (omega arith)) ∙ total_spared old d1 6 8 added.spares (inl (omega arith))) in
+        (balance_spared d1 new 8 9 stood.others (inl (omega arith)) ∙ balance_spared old d1 6 8 added.spares (inl (omega arith)))
+        (cash_spared d1 new 8 9 stood.others (inl (omega arith)) ∙ cash_spared old d1 6 8 added.spares (inl (omega arith)))
+        (total_spared d1 new 8 9 stood.others (inl (omega arith)) ∙ total_spared old d1 6 8 added.spares (inl (omega arith))) in
         let securities = securities_same old new entry (record { positions = λ p. refl; issued = λ i. refl; redeemed = λ i. refl }) same desk.named in
         let cash = cash_same old new entry (record { cash = λ c. refl; paid = λ f c. refl }) same in
         takes_entry old new entry reply room desk can (record {
           schema = schema;
-          entries = same_entries d1 new (with_entry before.register entry reply) (register_spared d2 new 9 10 noted.spares (inl (omega arith)) ∙ register_spared d1 d2 8 9 stood.others (inl (omega arith))) added.entries;
+          entries = same_entries d1 new (with_entry before.register entry reply) (register_spared d1 new 8 9 stood.others (inl (omega arith))) added.entries;
           amounts = same_amounts old new same desk.amounts;
           positions = securities.positions;
           cash = cash.cash;
           totals = totals_of old new entry securities cash;
           named = securities.named;
-          standings = same_standings d2 new (sym (state_spared d2 new 9 10 noted.spares (inl (omega arith)))) stood.kept;
-          standing_is =
-              sym (same_standing_in d2 new (sym (state_spared d2 new 9 10 noted.spares (inl (omega arith))))) ∙ stood.standings_are
-              ∙ ap (λ s. standing_at s last fresh_standing) (same_standing_in d1 old row.standings);
-          unmatched = noted_same new (noting (unmatched_in before) last i) (unmatched_in (appended entry reply before)) noted_last
-              (noted.notes (unmatched_in before) (same_unmatched old d2 (unmatched_in before) (sym (unmatched_spared d1 d2 8 9 stood.others (inr (omega arith)) ∙ row.unmatched)) desk.unmatched)).1;
-          due = due_spared d2 new 9 10 noted.spares (inr (omega arith)) ∙ due_spared d1 d2 8 9 stood.others (inr (omega arith)) ∙ row.due;
-          messages = sent_spared d2 new 9 10 noted.spares (inr (omega arith)) ∙ sent_spared d1 d2 8 9 stood.others (inr (omega arith)) ∙ row.messages;
+          standings = stood.kept;
+          standing_is = stood.standings_are ∙ ap (λ s. standing_at s last fresh_standing) (same_standing_in d1 old row.standings);
+          messages = sent_spared d1 new 8 9 stood.others (inr (omega arith)) ∙ row.messages;
           within = added.within;
           formed = added.formed;
           short = added.short;

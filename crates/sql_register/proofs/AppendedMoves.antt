@@ -25,7 +25,7 @@ use Rattle.sql_register.specs.Content.{content_in}
 use Rattle.sql_register.specs.Holds.{Becomes, IsDesk, outstanding_in, paid_in_table}
 use Rattle.sql_register.proofs.AppendedAmounts.{cash_still, moves_cash, moves_securities, named_isin, no_cash, no_securities, outstanding_before, outstanding_still, paid_before, paid_still, positions_still}
 use Rattle.sql_register.proofs.AppendedRow.{OnlyMoves, row_amounts, row_becomes, row_moves}
-use Rattle.sql_register.proofs.FrameLemmas.{register_spared, state_spared, unmatched_spared, due_spared, sent_spared}
+use Rattle.sql_register.proofs.FrameLemmas.{register_spared, state_spared, sent_spared}
 
 nothing_if : (b : Bool) → quantity_if b 0 ≡ 0
 nothing_if true = refl
@@ -39,8 +39,6 @@ module _ (d1 d2 new : Database) (first : SparesOthers 0 6 d1 d2) (second : Spare
   moves_still : (old : Database) → OnlyMoves old d1 → OnlyMoves old new
   moves_still old moves = record {
     standings = state_spared d2 new 0 6 second (inr (omega arith)) ∙ state_spared d1 d2 0 6 first (inr (omega arith)) ∙ moves.standings;
-    unmatched = unmatched_spared d2 new 0 6 second (inr (omega arith)) ∙ unmatched_spared d1 d2 0 6 first (inr (omega arith)) ∙ moves.unmatched;
-    due = due_spared d2 new 0 6 second (inr (omega arith)) ∙ due_spared d1 d2 0 6 first (inr (omega arith)) ∙ moves.due;
     messages = sent_spared d2 new 0 6 second (inr (omega arith)) ∙ sent_spared d1 d2 0 6 first (inr (omega arith)) ∙ moves.messages;
   }
 
@@ -69,7 +67,7 @@ module _ (old d1 : Database) (m : Movement) (reply : Reply) (room : ℕ) (desk :
       pub issue_becomes : (new : Database) → SetsAmount d2 new (SecurityTotal m.isin) (had d2 (SecurityTotal m.isin) + m.quantity) → new.schema ≡ desk_schema → length m.isin ≡ 12 → Becomes new (appended (Issue m) reply (content_in old))
       issue_becomes new b schema len =
           let same = row_amounts old d1 (Issue m) reply added in
-          row_becomes old new (Issue m) reply room desk (record { nothing = refl; unmatched = refl; request = λ h. refl }) can schema
+          row_becomes old new (Issue m) reply room desk (record { nothing = refl; request = λ h. refl }) can schema
           (same_entries d1 new (with_entry (content_in old).register (Issue m) reply) (entries_still d1 d2 new a.spares b.spares) added.entries) b.kept
           (moves_securities old d1 d2 new same m.account m.isin _ _ a b (Issue m) m.quantity 0 (ap (λ z. moved_to (content_in old).position m.account m.isin (z + m.quantity)) (sym held_is))
           (λ i. refl) (λ i. sym (nothing_if (bytes_eq m.isin i))) (omega (arith, total_is)) (named_isin m.isin len) desk.named)
@@ -99,7 +97,7 @@ module _ (old d1 : Database) (m : Movement) (reply : Reply) (room : ℕ) (desk :
       pub redeem_becomes : (new : Database) → SetsAmount d2 new (SecurityTotal m.isin) (had d2 (SecurityTotal m.isin) - m.quantity) → m.quantity ≤ had d2 (SecurityTotal m.isin) → new.schema ≡ desk_schema → length m.isin ≡ 12 → Becomes new (appended (Redeem m) reply (content_in old))
       redeem_becomes new b enough schema len =
           let same = row_amounts old d1 (Redeem m) reply added in
-          row_becomes old new (Redeem m) reply room desk (record { nothing = refl; unmatched = refl; request = λ h. refl }) can schema
+          row_becomes old new (Redeem m) reply room desk (record { nothing = refl; request = λ h. refl }) can schema
           (same_entries d1 new (with_entry (content_in old).register (Redeem m) reply) (entries_still d1 d2 new a.spares b.spares) added.entries) b.kept
           (moves_securities old d1 d2 new same m.account m.isin _ _ a b (Redeem m) 0 m.quantity (ap (λ z. moved_to (content_in old).position m.account m.isin (z - m.quantity)) (sym redeem_held))
           (λ i. sym (nothing_if (bytes_eq m.isin i))) (λ i. refl) (omega (arith, redeem_total, enough)) (named_isin m.isin len) desk.named)
@@ -131,7 +129,7 @@ module _ (old d1 : Database) (p : Payment) (reply : Reply) (room : ℕ) (desk : 
       pub pay_in_becomes : (new : Database) → SetsAmount d2 new (Currency p.ccy) (had d2 (Currency p.ccy) + p.amount) → new.schema ≡ desk_schema → Becomes new (appended (PayIn p) reply (content_in old))
       pay_in_becomes new b schema =
           let same = row_amounts old d1 (PayIn p) reply added in
-          row_becomes old new (PayIn p) reply room desk (record { nothing = refl; unmatched = refl; request = λ h. refl }) can schema
+          row_becomes old new (PayIn p) reply room desk (record { nothing = refl; request = λ h. refl }) can schema
           (same_entries d1 new (with_entry (content_in old).register (PayIn p) reply) (entries_still d1 d2 new a.spares b.spares) added.entries) b.kept
           (no_securities old new (PayIn p) (record { positions = λ c. refl; issued = λ i. refl; redeemed = λ i. refl }) (positions_still old d1 d2 new same p.bic p.ccy _ _ a b) (outstanding_still old d1 d2 new same p.bic p.ccy _ _ a b) desk.named)
           (moves_cash old d1 d2 new same p.bic p.ccy _ _ a b (PayIn p) (ap (λ z. cash_at (content_in old).cash p.bic p.ccy (z + p.amount)) (sym had_is)) (λ c. ap (λ z. cond (same_ccy p.ccy c) (Some (z + p.amount)) (paid_in_table old c)) (sym paid_is)))
@@ -160,7 +158,7 @@ module _ (old d1 : Database) (p : Payment) (reply : Reply) (room : ℕ) (desk : 
       pub pay_out_becomes : (new : Database) → SetsAmount d2 new (Currency p.ccy) (had d2 (Currency p.ccy) - p.amount) → new.schema ≡ desk_schema → Becomes new (appended (PayOut p) reply (content_in old))
       pay_out_becomes new b schema =
           let same = row_amounts old d1 (PayOut p) reply added in
-          row_becomes old new (PayOut p) reply room desk (record { nothing = refl; unmatched = refl; request = λ h. refl }) can schema
+          row_becomes old new (PayOut p) reply room desk (record { nothing = refl; request = λ h. refl }) can schema
           (same_entries d1 new (with_entry (content_in old).register (PayOut p) reply) (entries_still d1 d2 new a.spares b.spares) added.entries) b.kept
           (no_securities old new (PayOut p) (record { positions = λ c. refl; issued = λ i. refl; redeemed = λ i. refl }) (positions_still old d1 d2 new same p.bic p.ccy _ _ a b) (outstanding_still old d1 d2 new same p.bic p.ccy _ _ a b) desk.named)
           (moves_cash old d1 d2 new same p.bic p.ccy _ _ a b (PayOut p) (ap (λ z. cash_at (content_in old).cash p.bic p.ccy (z - p.amount)) (sym pay_out_had)) (λ c. ap (λ z. cond (same_ccy p.ccy c) (Some (z - p.amount)) (paid_in_table old c)) (sym pay_out_paid)))

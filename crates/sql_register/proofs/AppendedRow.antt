@@ -6,7 +6,7 @@ use Rattle.sql_amounts.proofs.AmountLemmas.{SameAmounts, same_amounts}
 use Rattle.sql_entries.specs.Entries.{AreEntries, EntryAdded, with_entry}
 use Rattle.sql_entries.specs.Shown.{HasShortNumbers}
 use Rattle.desk_rules.specs.WellFormed.{IsWellFormed}
-use Rattle.desk_register.specs.Changes.{CanAppend, appended, first_standing, requested_by, with_request}
+use Rattle.desk_register.specs.Changes.{CanAppend, appended, requested_by, with_request}
 use Rattle.desk_rules.specs.declared.history.entry.Entry.{Entry}
 use Rattle.desk_rules.specs.declared.history.entry.Entry.TheVariants.{Participant, Account, Security, Issue, Redeem, PayIn, PayOut, Instruct, Cancel, Run}
 use Rattle.desk_rules.specs.declared.answers.reply.Kept.{Kept}
@@ -15,41 +15,36 @@ use Rattle.desk_rules.specs.Content.{history_of}
 use Rattle.desk_rules.specs.History.{instructed}
 use Rattle.sql_standings.proofs.StandingLemmas.{same_standings, same_standing_in}
 use Rattle.sql_tables.specs.Schema.{desk_schema}
-use Rattle.sql_standings.proofs.UnmatchedLaws.{noted_same, same_unmatched}
 use Rattle.sql_register.specs.Appending.{IsAlone, RowAdded}
 use Rattle.sql_register.specs.Content.{content_in}
-use Rattle.desk_rules.specs.Unmatched.{if_unmatched, unmatched_in}
 use Rattle.sql_register.specs.Holds.{Becomes, IsDesk}
 use Rattle.sql_register.proofs.AppendedAmounts.{CashMoves, SecuritiesMove, alone_no_cash, alone_no_securities, cash_same, securities_same, totals_of}
 use Rattle.sql_register.proofs.AppendedContent.{takes_entry}
-use Rattle.sql_register.proofs.AppendedHistory.{stands_same, unmatched_same}
+use Rattle.sql_register.proofs.AppendedHistory.{stands_same}
 use Rattle.sql_register.proofs.ContentLemmas.{same_totals}
-use Rattle.sql_register.proofs.FrameLemmas.{balance_spared, cash_spared, total_spared, state_spared, unmatched_spared, due_spared, sent_spared}
+use Rattle.sql_register.proofs.FrameLemmas.{balance_spared, cash_spared, total_spared, state_spared, sent_spared}
 
 -- it instructs nothing, and asks to cancel nothing
 pub record StandsNowhere (e : Entry) : Type 0 where
   pub nothing : instructed e ≡ None
-  pub unmatched : if_unmatched (first_standing e).state (instructed e) ≡ None
   pub request : (h : List Entry) → requested_by h e ≡ None
 
 pub alone_nowhere : (e : Entry) → IsAlone e → StandsNowhere e
-alone_nowhere (Participant reference bic) is = record { nothing = refl; unmatched = refl; request = λ h. refl }
-alone_nowhere (Account reference bic account) is = record { nothing = refl; unmatched = refl; request = λ h. refl }
-alone_nowhere (Security reference isin kind) is = record { nothing = refl; unmatched = refl; request = λ h. refl }
+alone_nowhere (Participant reference bic) is = record { nothing = refl; request = λ h. refl }
+alone_nowhere (Account reference bic account) is = record { nothing = refl; request = λ h. refl }
+alone_nowhere (Security reference isin kind) is = record { nothing = refl; request = λ h. refl }
 alone_nowhere (Issue movement) is = absurd is
 alone_nowhere (Redeem movement) is = absurd is
 alone_nowhere (PayIn payment) is = absurd is
 alone_nowhere (PayOut payment) is = absurd is
 alone_nowhere (Instruct sender instruction) is = absurd is
 alone_nowhere (Cancel sender order) is = absurd is
-alone_nowhere (Run reference day rule) is = record { nothing = refl; unmatched = refl; request = λ h. refl }
+alone_nowhere (Run reference day rule) is = record { nothing = refl; request = λ h. refl }
 
 -- What is the same in tables that took such an entry.
 pub record OnlyMoves (old new : Database) : Type 0 where
   pub standings : new.trees 8 ≡ old.trees 8
-  pub unmatched : new.trees 9 ≡ old.trees 9
-  pub due : new.trees 10 ≡ old.trees 10
-  pub messages : new.trees 11 ≡ old.trees 11
+  pub messages : new.trees 9 ≡ old.trees 9
 
 pub row_becomes : (old new : Database) (e : Entry) (reply : Reply) (room : ℕ) → IsDesk old → StandsNowhere e → CanAppend room e reply (content_in old) → new.schema ≡ desk_schema
     → AreEntries new (with_entry (content_in old).register e reply) → AreAmounts new → SecuritiesMove old new e → CashMoves old new e → OnlyMoves old new → length (content_in old).register + 1 < 1_000_000_000 → IsWellFormed e → HasShortNumbers reply → Becomes new (appended e reply (content_in old))
@@ -66,8 +61,6 @@ row_becomes old new e reply room desk nowhere can schema entries amounts securit
       named = securities.named;
       standings = same_standings old new (sym same.standings) desk.standings;
       standing_is = same_standing_in new old same.standings ∙ (λ k n. (noted n ∙ stands_same before e reply desk.instructions nowhere.nothing n) k);
-      unmatched = noted_same new (unmatched_in before) (unmatched_in (appended e reply before)) (unmatched_same before e reply nowhere.unmatched) (same_unmatched old new (unmatched_in before) (sym same.unmatched) desk.unmatched);
-      due = same.due;
       messages = same.messages;
       within = within;
       formed = formed;
@@ -86,8 +79,6 @@ module _ (old new : Database) (e : Entry) (reply : Reply) (added : RowAdded old 
   pub row_moves : OnlyMoves old new
   row_moves = record {
     standings = state_spared old new 6 8 added.spares (inr (omega arith));
-    unmatched = unmatched_spared old new 6 8 added.spares (inr (omega arith));
-    due = due_spared old new 6 8 added.spares (inr (omega arith));
     messages = sent_spared old new 6 8 added.spares (inr (omega arith));
   }
 

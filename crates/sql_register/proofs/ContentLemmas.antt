@@ -1,5 +1,5 @@
 -- Parts of a content, by the trees that they depend on.
-use Rattle.std.proofs.Common.{◌≡◌, sym, ap, subst, ◌∙◌, ℕ, ◌+◌, List, map, unwrap_or, codes, sum_by, false, None, Some}
+use Rattle.std.proofs.Common.{◌≡◌, sym, ap, subst, ◌∙◌, ℕ, ◌+◌, List, map, unwrap_or, codes, sum_by, false, None}
 use Rattle.sqlite.specs.Effect.{Database}
 use Rattle.sql_amounts.specs.declared.key.Ledger.TheVariants.{Balance, Cash, Total}
 use Rattle.sql_amounts.proofs.AmountLemmas.{SameAmounts, same_recorded}
@@ -9,11 +9,8 @@ use Rattle.desk_rules.specs.Balances.{issued, paid_in, paid_out, redeemed}
 use Rattle.desk_rules.specs.Content.{CashBalances, Content, Positions, history_of}
 use Rattle.desk_rules.specs.declared.answers.reply.Kept.{Kept}
 use Rattle.desk_rules.specs.declared.history.standing.Standing.{Standing}
-use Rattle.desk_rules.specs.declared.history.standing.State.TheVariants.{Matched}
-use Rattle.desk_rules.specs.declared.history.pair.Place.{Place}
 use Rattle.desk_rules.specs.Facts.{accounts_of, is_participant, owner_of, participants_of}
-use Rattle.desk_rules.specs.History.{instruction_at}
-use Rattle.desk_register.specs.Looked.{IsMatchedPair, IsPaid, held_cash_of, held_of}
+use Rattle.desk_register.specs.Looked.{IsPaid, held_cash_of, held_of}
 use Rattle.desk_rules.specs.declared.answers.reply.Sent.{Sent}
 use Rattle.sql_register.specs.Content.{content_in}
 use Rattle.sql_register.specs.Holds.{AreTotals, outstanding_in, paid_in_table}
@@ -39,19 +36,6 @@ same_total_parts old new same content totals = record {
   held_cash = λ ccy. totals.held_cash ccy ∙ ap (λ a. unwrap_or a 0) (sym (same_paid old new same ccy));
   no_stranger = totals.no_stranger;
   no_stranger_pays = totals.no_stranger_pays;
-}
-
--- what is matched depends on the entries and on where they stand
-pub same_pair : (a b : Content) → a.register ≡ b.register → a.standing ≡ b.standing → (place : Place) → IsMatchedPair a place → IsMatchedPair b place
-same_pair a b register standing place pair = record {
-  later = pair.later;
-  mate = pair.mate;
-  reason = pair.reason;
-  is_later = subst (λ (r : List Kept). instruction_at (map (λ kept. kept.entry) r) place.number ≡ Some pair.later) register pair.is_later;
-  has_mate = subst (λ (s : ℕ → Standing). (s place.number).mate ≡ Some pair.mate) standing pair.has_mate;
-  is_earlier = pair.is_earlier;
-  matched = subst (λ (s : ℕ → Standing). (s place.number).state ≡ Matched pair.reason) standing pair.matched;
-  day = pair.day;
 }
 
 -- the totals are of the entries and the balances

@@ -1,5 +1,5 @@
 -- Tables with no row say the empty content.
-use Rattle.std.proofs.Common.{◌≡◌, lit<, inl, refl, sym, ap, subst, ◌∙◌, ℕ, zero, suc, List, [], map, Bool, false, codes, unwrap_or, None, Some, Result, Ok, Err, OnOk, arith}
+use Rattle.std.proofs.Common.{◌≡◌, lit<, inl, refl, sym, ap, subst, ◌∙◌, ℕ, zero, suc, List, [], map, false, codes, unwrap_or, None, Some, Result, Ok, Err, OnOk, arith}
 use Rattle.sqlite.specs.Effect.{Database}
 use Rattle.sqlite.specs.declared.error.Error.{Error}
 use Rattle.sqlite.specs.Command.TheVariants.{Begin}
@@ -16,24 +16,20 @@ use Rattle.desk_codes.specs.declared.currency.Ccy.{Ccy}
 use Rattle.sql_entries.proofs.SameLemmas.{no_entries}
 use Rattle.desk_register.specs.Changes.{empty_content}
 use Rattle.desk_register.specs.Looked.{IsPaid}
-use Rattle.desk_rules.specs.declared.history.pair.Place.{Place}
 use Rattle.desk_rules.specs.declared.history.entry.Instructed.{Instructed}
 use Rattle.desk_rules.specs.History.{instruction_at}
 use Rattle.sql_tables.specs.Version.{SetsVersion}
 use Rattle.sql_sent.proofs.TableLemmas.{none_sent}
-use Rattle.sql_standings.specs.Due.{is_due_in}
-use Rattle.sql_standings.proofs.DueLemmas.{none_due}
 use Rattle.sql_standings.proofs.StandingLemmas.{no_standings}
 use Rattle.sql_tables.specs.Control.{Begins, begin_text}
 use Rattle.sql_tables.specs.Making.{IsEmpty}
 use Rattle.sql_tables.specs.Schema.{desk_schema, no_schema}
-use Rattle.sql_standings.proofs.UnmatchedLaws.{empty_unmatched}
 use Rattle.sql_register.specs.Content.{content_in}
 use Rattle.sql_register.specs.Holds.{Becomes, Keeps, outstanding_in, paid_in_table}
 use Rattle.sql_register.specs.RowsSaid.{kept_in, sent_in}
 use Rattle.desk_rules.proofs.WellFormedLemmas.{formed_none}
 use Rattle.sql_register.proofs.ContentLemmas.{by_parts}
-use Rattle.sql_register.proofs.FrameLemmas.{balance_spared, cash_spared, total_spared, register_spared, state_spared, unmatched_spared, due_spared, sent_spared}
+use Rattle.sql_register.proofs.FrameLemmas.{balance_spared, cash_spared, total_spared, register_spared, state_spared, sent_spared}
 
 -- ---- the transaction in which tables are made
 
@@ -66,9 +62,7 @@ pub record AreEmpty (db : Database) : Type 0 where
   pub totals : db.trees 4 ≡ []
   pub register : db.trees 6 ≡ []
   pub states : db.trees 8 ≡ []
-  pub unmatched : db.trees 9 ≡ []
-  pub due : db.trees 10 ≡ []
-  pub messages : db.trees 11 ≡ []
+  pub messages : db.trees 9 ≡ []
 
 no_such : (n : ℕ) (i : Instructed) → instruction_at [] n ≡ Some i → ⊥
 no_such zero i is = cc
@@ -84,9 +78,6 @@ module _ (db : Database) (empty : AreEmpty db) where
   content = by_parts _ _ _ _ _ _ _ _ _ _ (ap (map kept_in) empty.register) (no_standings db empty.states).1 (λ account isin. ap (λ a. unwrap_or a 0) (empty_recorded db no_amounts Balance account isin))
       (λ bic ccy. ap (λ a. unwrap_or a 0) (empty_recorded db no_amounts Cash bic (letters_of ccy))) (ap (map sent_in) empty.messages)
 
-  never_due : (place : Place) → is_due_in db place ≡ false
-  never_due place = ap (λ (f : Place → Bool). f place) (none_due db empty.due).1
-
   nothing_outstanding : (isin : List ℕ) → outstanding_in db isin ≡ 0
   nothing_outstanding isin = ap (λ a. unwrap_or a 0) (empty_recorded db no_amounts Total (codes "security") isin)
 
@@ -100,10 +91,6 @@ module _ (db : Database) (empty : AreEmpty db) where
     entries = no_entries db empty.register;
     standings = (no_standings db empty.states).0;
     instructions = λ n none. refl;
-    unmatched = empty_unmatched db empty.unmatched;
-    due_rows = (none_due db empty.due).0;
-    due = λ place is. absurd (let e = sym (never_due place) ∙ is in cc);
-    due_all = λ place pair. absurd (let e = pair.matched in cc);
     sent = none_sent db empty.messages;
     totals = record {
       outstanding = λ isin. omega (arith, nothing_outstanding isin);
@@ -130,14 +117,12 @@ module _ (db : Database) (empty : AreEmpty db) where
 pub version_empty : (made new : Database) → IsEmpty desk_schema made → new.schema ≡ desk_schema → SetsVersion made new 3 → AreEmpty new
 version_empty made new are schema sets = record {
   schema = schema;
-  balances = balance_spared made new 13 14 sets.others (inl (omega arith)) ∙ are.empty.0;
-  cash = cash_spared made new 13 14 sets.others (inl (omega arith)) ∙ are.empty.1.0;
-  totals = total_spared made new 13 14 sets.others (inl (omega arith)) ∙ are.empty.1.1.0;
-  register = register_spared made new 13 14 sets.others (inl (omega arith)) ∙ are.empty.1.1.1.0;
-  states = state_spared made new 13 14 sets.others (inl (omega arith)) ∙ are.empty.1.1.1.1.0;
-  unmatched = unmatched_spared made new 13 14 sets.others (inl (omega arith)) ∙ are.empty.1.1.1.1.1.0;
-  due = due_spared made new 13 14 sets.others (inl (omega arith)) ∙ are.empty.1.1.1.1.1.1.0;
-  messages = sent_spared made new 13 14 sets.others (inl (omega arith)) ∙ are.empty.1.1.1.1.1.1.1.0;
+  balances = balance_spared made new 10 11 sets.others (inl (omega arith)) ∙ are.empty.0;
+  cash = cash_spared made new 10 11 sets.others (inl (omega arith)) ∙ are.empty.1.0;
+  totals = total_spared made new 10 11 sets.others (inl (omega arith)) ∙ are.empty.1.1.0;
+  register = register_spared made new 10 11 sets.others (inl (omega arith)) ∙ are.empty.1.1.1.0;
+  states = state_spared made new 10 11 sets.others (inl (omega arith)) ∙ are.empty.1.1.1.1.0;
+  messages = sent_spared made new 10 11 sets.others (inl (omega arith)) ∙ are.empty.1.1.1.1.1.0;
 }
 
 -- a database with no table has no row

@@ -1,13 +1,12 @@
 pub mod SaidLemmas
 pub mod StageLemmas
 pub mod LookLemmas
+pub mod HeldContent
 pub mod CauseLemmas
 pub mod PairCauses
 pub mod MadeLemmas
 pub mod ReadLemmas
-pub mod FactLemmas
-pub mod CountLemmas
-pub mod KnownLemmas
+pub mod KeptLemmas
 pub mod ChangeLemmas
 pub mod FrameLemmas
 pub mod ContentLemmas
@@ -27,7 +26,7 @@ pub mod AppendedCancellation
 pub mod LegLemmas
 pub mod WithinLemmas
 pub mod TriedContent
-pub mod EndedContent
 pub mod TrialLemmas
 pub mod WantLemmas
 pub mod SendableLemmas
+pub mod WalkLemmas

@@ -1,24 +1,19 @@
 -- What calls on pairs ask of the tables holds, so that they fail for want of memory or size, or where the device failed.
-use Rattle.std.proofs.Common.{◌≡◌, ◌≢◌, inl, inr, sym, ap, ◌∙◌, ℕ, ◌<◌, Bool, false, Some, arith}
-use Rattle.std.proofs.lemmas.Bool.{cases_Bool}
+use Rattle.std.proofs.Common.{◌≡◌, ◌≢◌, sym, ap, ◌∙◌, ℕ, ◌<◌, Some, arith}
 use Rattle.sqlite.specs.Effect.{Database}
 use Rattle.desk_register.specs.Changes.{CanCancelPair, CanPair, standing_at}
 use Rattle.desk_register.specs.declared.outcome.Outcome.{Outcome}
 use Rattle.desk_rules.specs.Content.{Content}
 use Rattle.desk_rules.specs.declared.history.entry.Instructed.{Instructed}
-use Rattle.desk_rules.specs.declared.history.pair.Place.{Place}
 use Rattle.desk_rules.specs.declared.history.standing.Standing.{Standing}
 use Rattle.desk_rules.specs.declared.history.standing.State.{State}
 use Rattle.desk_rules.specs.declared.history.standing.State.TheVariants.{Matched, NoInstruction, Unmatched}
-use Rattle.sql_standings.specs.Due.{is_due_in}
-use Rattle.sql_standings.proofs.DueLemmas.{same_due_in}
 use Rattle.sql_standings.specs.Standings.{StandingsChanged, standing_in}
 use Rattle.sql_register.specs.Content.{content_in}
 use Rattle.sql_register.specs.Holds.{Becomes, IsDesk}
-use Rattle.sql_register.specs.Pairs.{ForgetsBoth, StandAlready, StandBoth}
+use Rattle.sql_register.specs.Pairs.{StandAlready}
 use Rattle.sql_register.proofs.BothContent.{apart_false}
-use Rattle.sql_register.proofs.EndedContent.{IsMatchedAt}
-use Rattle.sql_register.proofs.FrameLemmas.{due_spared}
+use Rattle.sql_register.proofs.TrialLemmas.{IsMatchedAt}
 use Rattle.sql_register.proofs.StandingContent.{at_other}
 use Rattle.sql_register.proofs.TriedContent.{balances_so}
 use Rattle.sql_register.specs.Settling.{cash_then, positions_then}
@@ -48,20 +43,6 @@ module _ (db : Database) (desk : IsDesk db) (m n : ℕ) where
     earlier = is_some _ (Matched can.earlier_reason) can.earlier_matched (λ e. cc);
     later = is_some _ (Matched can.later_reason) can.later_matched (λ e. cc);
   }
-
-  -- an unmatched instruction is due at no place
-  pub pair_not_due : CanPair (content_in db) m n → (day : ℕ) → is_due_in db (record { day = day; number = n }) ≡ false
-  pair_not_due can day = elim (cases_Bool (is_due_in db (record { day = day; number = n }))) [
-    | inl is ↦ absurd (let pair = desk.due (record { day = day; number = n }) is in let t = sym can.later_unmatched ∙ pair.matched in cc)
-    | inr none ↦ none
-  ]
-
-pub due_none_stood : (old mid s2 : Database) (m n : ℕ) (state : State) (place : Place) → mid ≡ old → StandBoth mid s2 m n state → is_due_in old place ≡ false → is_due_in s2 place ≡ false
-due_none_stood old mid s2 m n state place same stood none =
-    ap (λ (g : Place → Bool). g place) (same_due_in s2 mid (due_spared mid s2 8 9 stood.others (inr (omega arith)))) ∙ ap (λ (d : Database). is_due_in d place) same ∙ none
-
-pub due_none_forgot : (s2 s3 : Database) (m n : ℕ) (place : Place) → ForgetsBoth s2 s3 m n → is_due_in s2 place ≡ false → is_due_in s3 place ≡ false
-due_none_forgot s2 s3 m n place forgot none = ap (λ (g : Place → Bool). g place) (same_due_in s3 s2 (due_spared s2 s3 9 10 forgot.spares (inr (omega arith)))) ∙ none
 
 -- a matched pair stands matched once its legs have moved
 pub moved_stands : (old mid : Database) (m n : ℕ) (earlier later : Instructed) (outcome : Outcome) → IsMatchedAt (content_in old) m n earlier later

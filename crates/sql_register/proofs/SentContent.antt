@@ -1,5 +1,5 @@
 -- One message more: the other tables say what they said.
-use Rattle.std.proofs.Common.{◌≡◌, inl, refl, sym, ap, subst, ◌∙◌, ℕ, ◌+◌, ◌<◌, ◌^◌, List, [], ◌∷◌, ◌++◌, length, map, true, arith}
+use Rattle.std.proofs.Common.{◌≡◌, inl, refl, sym, ap, subst, ◌∙◌, ℕ, ◌+◌, ◌<◌, ◌^◌, List, [], ◌∷◌, map, arith}
 use Rattle.std.specs.Int.{w64, cast_signed, cast_unsigned}
 use Rattle.std.specs.List.{AllByRecursion}
 use Rattle.std.proofs.lemmas.Int.{of_z-to_z}
@@ -9,48 +9,38 @@ use Rattle.desk_register.specs.Changes.{with_sent}
 use Rattle.sql_tables.specs.Schema.{desk_schema}
 use Rattle.desk_rules.specs.declared.answers.reply.Sent.{Sent}
 use Rattle.sql_entries.proofs.SameLemmas.{same_entries}
-use Rattle.sql_sent.specs.Messages.{AreSent, Adds, IsSendable, rows_after, sent_to, stored}
+use Rattle.sql_sent.specs.Messages.{AreSent, Adds, IsSendable, rows_from, stored}
 use Rattle.sql_sent.proofs.RowLemmas.{all_more}
-use Rattle.sql_standings.proofs.DueLemmas.{same_due, same_due_in}
 use Rattle.sql_standings.proofs.StandingLemmas.{same_standings, same_standing_in}
-use Rattle.sql_standings.proofs.UnmatchedLaws.{same_unmatched}
 use Rattle.sql_register.specs.Content.{content_in}
-use Rattle.desk_rules.specs.Unmatched.{unmatched_in}
 use Rattle.sql_register.specs.Holds.{Becomes, IsDesk, Keeps}
 use Rattle.sql_register.specs.RowsSaid.{kept_in, sent_in}
-use Rattle.sql_register.proofs.FrameLemmas.{balance_spared, cash_spared, total_spared, register_spared, state_spared, unmatched_spared, due_spared}
-use Rattle.sql_register.proofs.ContentLemmas.{by_parts, same_cash, same_pair, same_positions, same_sums, same_total_parts, same_totals}
+use Rattle.sql_register.proofs.FrameLemmas.{balance_spared, cash_spared, total_spared, register_spared, state_spared}
+use Rattle.sql_register.proofs.ContentLemmas.{by_parts, same_cash, same_positions, same_sums, same_total_parts, same_totals}
 
 about_again : (about : ℕ) → about < 2 ^ 64 → cast_unsigned w64 (cast_signed w64 about) ≡ about
 about_again about small = of_z-to_z w64 about small
 
-message_again : (n place : ℕ) (message : Sent) → message.about < 2 ^ 64 → sent_in (stored n place message) ≡ message
-message_again n place message small = ap (λ about. record { bic = message.bic; mt = message.mt; about = about; text = message.text }) (about_again message.about small)
+message_again : (n : ℕ) (message : Sent) → message.about < 2 ^ 64 → sent_in (stored n message) ≡ message
+message_again n message small = ap (λ about. record { bic = message.bic; mt = message.mt; about = about; text = message.text }) (about_again message.about small)
 
 -- the rows of messages say them
-messages_again : (before messages : List Sent) → AllByRecursion (λ message. message.about < 2 ^ 64) messages → map sent_in (rows_after before messages) ≡ messages
-messages_again before [] all = refl
-messages_again before (message ∷ more) all =
-    ap (λ m. m ∷ map sent_in (rows_after (before ++ message ∷ []) more)) (message_again (length before + 1) (length (sent_to before message.bic) + 1) message all.0) ∙ ap (λ ms. message ∷ ms) (messages_again (before ++ message ∷ []) more all.1)
+messages_again : (n : ℕ) (messages : List Sent) → AllByRecursion (λ message. message.about < 2 ^ 64) messages → map sent_in (rows_from n messages) ≡ messages
+messages_again n [] all = refl
+messages_again n (message ∷ more) all = ap (λ m. m ∷ map sent_in (rows_from (n + 1) more)) (message_again n message all.0) ∙ ap (λ ms. message ∷ ms) (messages_again (n + 1) more all.1)
 
 pub sent_is : (db : Database) (messages : List Sent) → AreSent db messages → (content_in db).sent ≡ messages
-sent_is db messages are = ap (map sent_in) are.rows ∙ messages_again [] messages are.fit
+sent_is db messages are = ap (map sent_in) are.rows ∙ messages_again 1 messages are.fit
 
 module _ (old new : Database) (message : Sent) (desk : IsDesk old) (adds : Adds old new (content_in old).sent message) (sendable : IsSendable message) where
   amounts : SameAmounts old new
-  amounts = same_totals old new (balance_spared old new 11 13 adds.others (inl (omega arith))) (cash_spared old new 11 13 adds.others (inl (omega arith))) (total_spared old new 11 13 adds.others (inl (omega arith)))
+  amounts = same_totals old new (balance_spared old new 9 10 adds.others (inl (omega arith))) (cash_spared old new 9 10 adds.others (inl (omega arith))) (total_spared old new 9 10 adds.others (inl (omega arith)))
 
   register_kept : new.trees 6 ≡ old.trees 6
-  register_kept = register_spared old new 11 13 adds.others (inl (omega arith))
+  register_kept = register_spared old new 9 10 adds.others (inl (omega arith))
 
   state_kept : new.trees 8 ≡ old.trees 8
-  state_kept = state_spared old new 11 13 adds.others (inl (omega arith))
-
-  unmatched_kept : new.trees 9 ≡ old.trees 9
-  unmatched_kept = unmatched_spared old new 11 13 adds.others (inl (omega arith))
-
-  due_kept : new.trees 10 ≡ old.trees 10
-  due_kept = due_spared old new 11 13 adds.others (inl (omega arith))
+  state_kept = state_spared old new 9 10 adds.others (inl (omega arith))
 
   content : content_in new ≡ with_sent message (content_in old)
   content = by_parts _ _ _ _ _ _ _ _ _ _ (ap (map kept_in) register_kept) (same_standing_in new old state_kept) (same_positions old new amounts) (same_cash old new amounts) (sent_is new _ adds.sent)
@@ -62,10 +52,6 @@ module _ (old new : Database) (message : Sent) (desk : IsDesk old) (adds : Adds 
     entries = same_entries old new (content_in old).register register_kept desk.entries;
     standings = same_standings old new (sym state_kept) desk.standings;
     instructions = desk.instructions;
-    unmatched = same_unmatched old new (unmatched_in (content_in old)) (sym unmatched_kept) desk.unmatched;
-    due_rows = same_due old new (sym due_kept) desk.due_rows;
-    due = λ place is. same_pair (content_in old) (with_sent message (content_in old)) refl refl place (desk.due place (subst (λ f. f place ≡ true) (same_due_in new old due_kept) is));
-    due_all = λ place pair. subst (λ f. f place ≡ true) (sym (same_due_in new old due_kept)) (desk.due_all place (same_pair (with_sent message (content_in old)) (content_in old) refl refl place pair));
     sent = adds.sent;
     totals = same_sums new (content_in old) (with_sent message (content_in old)) refl refl refl (same_total_parts old new amounts (content_in old) desk.totals);
     registered = desk.registered;

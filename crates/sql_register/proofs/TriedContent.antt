@@ -18,19 +18,16 @@ use Rattle.desk_rules.specs.declared.history.entry.Instructed.{Instructed}
 use Rattle.desk_rules.specs.Facts.{accounts_of, is_participant, owner_of, participants_of}
 use Rattle.sql_entries.proofs.SameLemmas.{same_entries}
 use Rattle.sql_sent.proofs.TableLemmas.{same_sent}
-use Rattle.sql_standings.proofs.DueLemmas.{same_due, same_due_in}
 use Rattle.sql_standings.proofs.StandingLemmas.{same_standings, same_standing_in}
 use Rattle.sql_tables.specs.Schema.{desk_schema}
-use Rattle.sql_standings.proofs.UnmatchedLaws.{same_unmatched}
 use Rattle.sql_register.specs.Content.{content_in}
-use Rattle.desk_rules.specs.Unmatched.{unmatched_in}
 use Rattle.sql_register.specs.Holds.{AreTotals, Becomes, IsDesk, Keeps, outstanding_in, paid_in_table}
 use Rattle.desk_register.specs.RegisteredOnce.{AreRegisteredOnce, IsOfRegistered, is_account}
 use Rattle.sql_register.specs.RowsSaid.{kept_in, sent_in}
 use Rattle.sql_register.specs.Settling.{AmountsSo, Fares, cash_then, positions_then}
 use Rattle.desk_register.proofs.AddsUpLemmas.{apart, cash_elsewhere, elsewhere, one_of, pay_less, pay_more, put_less, put_more}
-use Rattle.sql_register.proofs.FrameLemmas.{register_spared, state_spared, unmatched_spared, due_spared, sent_spared}
-use Rattle.sql_register.proofs.ContentLemmas.{by_parts, same_pair}
+use Rattle.sql_register.proofs.FrameLemmas.{register_spared, state_spared, sent_spared}
+use Rattle.sql_register.proofs.ContentLemmas.{by_parts}
 use Rattle.desk_register.proofs.OnceLemmas.{sum_with_less, sum_with_more}
 
 -- what stands of another security stays
@@ -134,13 +131,7 @@ module _ (old new : Database) (position : Positions) (cash : CashBalances) (desk
   state_kept : new.trees 8 ≡ old.trees 8
   state_kept = state_spared old new 0 6 so.others (inr (omega arith))
 
-  unmatched_kept : new.trees 9 ≡ old.trees 9
-  unmatched_kept = unmatched_spared old new 0 6 so.others (inr (omega arith))
-
-  due_kept : new.trees 10 ≡ old.trees 10
-  due_kept = due_spared old new 0 6 so.others (inr (omega arith))
-
-  sent_kept : new.trees 11 ≡ old.trees 11
+  sent_kept : new.trees 9 ≡ old.trees 9
   sent_kept = sent_spared old new 0 6 so.others (inr (omega arith))
 
   content : content_in new ≡ balances_so (content_in old) position cash
@@ -170,10 +161,6 @@ module _ (old new : Database) (position : Positions) (cash : CashBalances) (desk
     entries = same_entries old new (content_in old).register register_kept desk.entries;
     standings = same_standings old new (sym state_kept) desk.standings;
     instructions = desk.instructions;
-    unmatched = same_unmatched old new (unmatched_in (content_in old)) (sym unmatched_kept) desk.unmatched;
-    due_rows = same_due old new (sym due_kept) desk.due_rows;
-    due = λ place is. same_pair (content_in old) (balances_so (content_in old) position cash) refl refl place (desk.due place (subst (λ f. f place ≡ true) (same_due_in new old due_kept) is));
-    due_all = λ place pair. subst (λ f. f place ≡ true) (sym (same_due_in new old due_kept)) (desk.due_all place (same_pair (balances_so (content_in old) position cash) (content_in old) refl refl place pair));
     sent = same_sent old new sent_kept (content_in old).sent desk.sent;
     totals = totals stay;
     registered = desk.registered;

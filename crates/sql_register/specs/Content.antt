@@ -14,5 +14,5 @@ content_in db = record {
   standing = standing_in db;
   position = λ account isin. unwrap_or (amount_in db Balance account isin) 0;
   cash = λ bic ccy. unwrap_or (amount_in db Cash bic (letters_of ccy)) 0;
-  sent = map sent_in (db.trees 11);
+  sent = map sent_in (db.trees 9);
 }

@@ -1,11 +1,10 @@
 -- What the desk's tables keep true.
-use Rattle.std.specs.Prelude.{◌≡◌, ◌≢◌, ℕ, ◌+◌, ◌<◌, length, true, false, [], codes, List, Option, None, Some, unwrap_or}
+use Rattle.std.specs.Prelude.{◌≡◌, ◌≢◌, ℕ, ◌+◌, ◌<◌, length, false, [], codes, List, Option, None, Some, unwrap_or}
 use Rattle.std.specs.List.{AllByRecursion}
 use Rattle.sqlite.specs.Effect.{Database}
 use Rattle.desk_codes.specs.declared.currency.Ccy.{Ccy}
 use Rattle.desk_codes.specs.Currency.{letters_of}
 use Rattle.desk_rules.specs.declared.history.entry.Instructed.{Instructed}
-use Rattle.desk_rules.specs.declared.history.pair.Place.{Place}
 use Rattle.desk_rules.specs.declared.history.standing.State.TheVariants.{NoInstruction}
 use Rattle.desk_rules.specs.Balances.{issued, paid_in, paid_out, redeemed}
 use Rattle.desk_rules.specs.Content.{Content, history_of}
@@ -13,20 +12,17 @@ use Rattle.desk_rules.specs.Facts.{is_participant, owner_of}
 use Rattle.desk_rules.specs.History.{instruction_at}
 use Rattle.desk_rules.specs.Standing.{no_standing}
 use Rattle.desk_rules.specs.WellFormed.{AreWellFormed}
-use Rattle.desk_register.specs.Looked.{held_cash_of, held_of, IsMatchedPair, IsPaid}
+use Rattle.desk_register.specs.Looked.{held_cash_of, held_of, IsPaid}
 use Rattle.desk_register.specs.declared.holding.Holding.{Holding}
 use Rattle.sql_amounts.specs.declared.key.Ledger.TheVariants.{Total}
 use Rattle.sql_amounts.specs.Amounts.{AreAmounts, amount_in}
 use Rattle.sql_entries.specs.Entries.{AreEntries}
 use Rattle.sql_entries.specs.Shown.{HaveShortNumbers}
 use Rattle.sql_sent.specs.Messages.{AreSent, IsSendable}
-use Rattle.sql_standings.specs.Due.{AreDue, is_due_in}
 use Rattle.sql_standings.specs.Standings.{AreStandings}
-use Rattle.sql_standings.specs.Unmatched.{AreUnmatched}
 use Rattle.sql_tables.specs.Schema.{desk_schema}
 use Rattle.sql_register.specs.Content.{content_in}
 use Rattle.desk_register.specs.RegisteredOnce.{AreRegisteredOnce}
-use Rattle.desk_rules.specs.Unmatched.{unmatched_in}
 
 -- what is outstanding of a security, and what is paid of a currency, as the table of totals says it
 abbrev pub outstanding_in : Database → List ℕ → ℕ
@@ -46,18 +42,13 @@ pub record AreTotals (db : Database) (content : Content) : Type 0 where
   pub no_stranger : (account isin : List ℕ) → owner_of (history_of content) account ≡ None → content.position account isin ≡ 0
   pub no_stranger_pays : (bic : List ℕ) (ccy : Ccy) → is_participant (history_of content) bic ≡ false → content.cash bic ccy ≡ 0
 
--- Each table says what a content has: entries and messages in their order, where each instruction stands, the unmatched
--- ones, the places of matched pairs, the amounts.
+-- Each table says what a content has: entries and messages in their order, where each instruction stands, the amounts.
 pub record Keeps (db : Database) (content : Content) : Type 0 where
   pub schema : db.schema ≡ desk_schema
   pub amounts : AreAmounts db
   pub entries : AreEntries db content.register
   pub standings : AreStandings db
   pub instructions : (n : ℕ) → instruction_at (history_of content) n ≡ None → content.standing n ≡ no_standing
-  pub unmatched : AreUnmatched db (unmatched_in content)
-  pub due_rows : AreDue db
-  pub due : (place : Place) → is_due_in db place ≡ true → IsMatchedPair content place
-  pub due_all : (place : Place) → IsMatchedPair content place → is_due_in db place ≡ true
   pub sent : AreSent db content.sent
   pub totals : AreTotals db content
   pub registered : AreRegisteredOnce (history_of content)

@@ -3,11 +3,9 @@ pub mod Content
 pub mod Holds
 pub mod Appending
 pub mod Kept
-pub mod Slots
-pub mod Facts
-pub mod Known
 pub mod Undone
 pub mod Told
 pub mod Pairs
 pub mod Settling
 pub mod Made
+pub mod Walking

@@ -165,4 +165,4 @@ module _ (row : Row) where
 
   -- what a row of `sent` says
   abbrev pub sent_in : Sent
-  sent_in = record { bic = text 2; mt = number 4; about = cast_unsigned w64 (signed_in (column row 5)); text = text 6 }
+  sent_in = record { bic = text 2; mt = number 3; about = cast_unsigned w64 (signed_in (column row 4)); text = text 5 }

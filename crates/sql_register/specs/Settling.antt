@@ -16,12 +16,10 @@ use Rattle.desk_rules.specs.declared.history.standing.State.{State as Stand}
 use Rattle.desk_rules.specs.declared.history.standing.State.TheVariants.{Matched, Settled}
 use Rattle.sql_amounts.specs.Amounts.{AreAmounts, amount_in}
 use Rattle.sql_amounts.specs.declared.key.Ledger.TheVariants.{Total}
-use Rattle.sql_standings.specs.Due.{DueChanged, due_at, is_due_in}
 use Rattle.sql_tables.specs.Control.{mark_at}
 use Rattle.sql_tables.specs.Ends.{IfSound, IsLater, IsUndone, SaysWhy, SparesOthers}
 use Rattle.sql_tables.specs.Schema.{desk_schema}
 use Rattle.sql_register.specs.Content.{content_in}
-use Rattle.sql_register.specs.Pairs.{StandBoth}
 
 -- ---- the balances
 
@@ -106,17 +104,6 @@ pub record MovesLegs (old new : Database) (earlier later : Instructed) (outcome 
 pub record MovesBoth (old new : Database) (earlier later : Instructed) (outcome : Outcome) : Type 0 where
   pub fares : Fares (content_in old) earlier later outcome
   pub amounts : AmountsSo old new (positions_then (content_in old) earlier later outcome) (cash_then (content_in old) earlier later outcome)
-
--- a pair that is settled is due no more
-abbrev pub Frees : Database → Database → ℕ → ℕ → Outcome → Type 0
-Frees old new day number outcomes.Settled = DueChanged old new (due_at (is_due_in old) (record { day = day; number = number }) false)
-Frees old new day number (Lacks lack) = new ≡ old
-
--- both instructions stand as the pair fared, and a settled pair is due no more
-pub record Closes (old new : Database) (m n day : ℕ) (outcome : Outcome) : Type 0 where
-  pub mid : Database
-  pub stood : StandBoth old mid m n (state_then outcome)
-  pub freed : Frees mid new day n outcome
 
 -- ---- in a savepoint
 

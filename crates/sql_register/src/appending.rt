@@ -1,5 +1,5 @@
 //! One entry more, with what it moves.
-ghost use Rattle.std.specs.Prelude.{◌≡◌, ℕ, ◌+◌, ◌-◌, ◌<◌, ◌≤◌, ◌^◌, List, length, None, IfOk, IfSome, IsOk, OnOk};
+ghost use Rattle.std.specs.Prelude.{◌≡◌, ℕ, ◌+◌, ◌-◌, ◌<◌, ◌≤◌, ◌^◌, List, length, None, IfOk, IsOk, OnOk};
 ghost use Rattle.desk_rules.specs.declared.answers.reply.Kept.{Kept};
 ghost use Rattle.desk_rules.specs.declared.history.entry.Entry.TheVariants.{Cancel, Instruct, Issue, PayIn, PayOut, Redeem};
 ghost use Rattle.sql_amounts.specs.Amounts.{AreAmounts};
@@ -14,15 +14,13 @@ ghost use Rattle.sql_register.specs.Content.{content_in};
 ghost use Rattle.sql_register.specs.Holds.{Becomes, IsDesk};
 ghost use Rattle.sql_tables.specs.Calls.{FailsForCause, Soundly, Writes, tables};
 
-use crate::counting::count_entries;
 use crate::numbers::checked;
 use desk_codes::{Bic, Isin};
 use desk_msg::CancelOrder;
 use desk_rules::{Entry, Instructed, Movement, Payment, Reply, Sender, well_formed};
 use sql_amounts::{AmountKey, put, take};
-use sql_entries::{add_entry, number_of};
+use sql_entries::{add_entry, entry_count, number_of};
 use sql_standings::standings::{add_standing, ask};
-use sql_standings::unmatched::note_unmatched;
 use sql_tables::values::CORRUPT;
 use sqlite::{Alter, Connection, Error};
 
@@ -58,25 +56,20 @@ fn number_after(count: u64) -> Result<u64, Error>
     checked(count.saturating_add(1))
 }
 
-/// Adds the row of an entry with its reply, where so many entries are known of, and gives its number.
-fn add_row<S: Alter>(
-    conn: &mut Connection<S>,
-    known: Option<u64>,
-    entry: &Entry,
-    reply: &Reply,
-) -> Result<u64, Error>
-    ensures added { Soundly S.Store conn.old conn.new ((register : List Kept) → AreEntries (tables S.Store conn.old) register → IfSome known (λ n. n ≡ length register) → IfOk result (λ number. (number ≡ length register + 1) × EntryAdded (tables S.Store conn.old) (tables S.Store conn.new) register entry.now reply.now)) }
+/// Adds the row of an entry with its reply, and gives its number.
+fn add_row<S: Alter>(conn: &mut Connection<S>, entry: &Entry, reply: &Reply) -> Result<u64, Error>
+    ensures added { Soundly S.Store conn.old conn.new ((register : List Kept) → AreEntries (tables S.Store conn.old) register → IfOk result (λ number. (number ≡ length register + 1) × EntryAdded (tables S.Store conn.old) (tables S.Store conn.new) register entry.now reply.now)) }
     ensures within { IfOk result (λ number. number < 1_000_000_000) }
     ensures small { IfOk result (λ number. number < 2 ^ 63) }
     ensures formed { IsWellFormed entry.now }
     ensures short { HasShortNumbers reply.now }
     ensures write { Writes S.Store conn.old conn.new result }
-    ensures blame { Soundly S.Store conn.old conn.new ((register : List Kept) → AreEntries (tables S.Store conn.old) register → IfSome known (λ n. n ≡ length register) → length register + 1 < 1_000_000_000 → AreWellFormed (entries_in register)
+    ensures blame { Soundly S.Store conn.old conn.new ((register : List Kept) → AreEntries (tables S.Store conn.old) register → length register + 1 < 1_000_000_000 → AreWellFormed (entries_in register)
         → number_of_key (entries_in register) (sender_of entry.now) (reference_of entry.now) ≡ None → FailsForCause S.Store conn.old conn.new result) }
 {
     formed(entry);
     short(reply);
-    let count = count_entries(conn, known)?;
+    let count = entry_count(conn)?;
     let number = number_after(count)?;
     add_entry(conn, number, entry, reply)?;
     Ok(number)
@@ -85,15 +78,14 @@ fn add_row<S: Alter>(
 /// Adds an entry that moves nothing and asks for nothing.
 fn append_alone<S: Alter>(
     conn: &mut Connection<S>,
-    known: Option<u64>,
     entry: &Entry,
     reply: &Reply,
 ) -> Result<(), Error>
-    ensures changed { Soundly S.Store conn.old conn.new (IsDesk (tables S.Store conn.old) → IfSome known (λ n. n ≡ length (content_in (tables S.Store conn.old)).register) → IsAlone entry.now → (room : ℕ) → CanAppend room entry.now reply.now (content_in (tables S.Store conn.old)) → OnOk result (Becomes (tables S.Store conn.new) (appended entry.now reply.now (content_in (tables S.Store conn.old))))) }
+    ensures changed { Soundly S.Store conn.old conn.new (IsDesk (tables S.Store conn.old) → IsAlone entry.now → (room : ℕ) → CanAppend room entry.now reply.now (content_in (tables S.Store conn.old)) → OnOk result (Becomes (tables S.Store conn.new) (appended entry.now reply.now (content_in (tables S.Store conn.old))))) }
     ensures write { Writes S.Store conn.old conn.new result }
-    ensures blame { Soundly S.Store conn.old conn.new (IsDesk (tables S.Store conn.old) → IfSome known (λ n. n ≡ length (content_in (tables S.Store conn.old)).register) → (room : ℕ) → room < 1_000_000_000 → CanAppend room entry.now reply.now (content_in (tables S.Store conn.old)) → FailsForCause S.Store conn.old conn.new result) }
+    ensures blame { Soundly S.Store conn.old conn.new (IsDesk (tables S.Store conn.old) → (room : ℕ) → room < 1_000_000_000 → CanAppend room entry.now reply.now (content_in (tables S.Store conn.old)) → FailsForCause S.Store conn.old conn.new result) }
 {
-    add_row(conn, known, entry, reply)?;
+    add_row(conn, entry, reply)?;
     Ok(())
 }
 
@@ -121,18 +113,17 @@ fn named(isin: Isin)
 /// Adds an issue, and puts its quantity on the account and on what is outstanding.
 fn append_issue<S: Alter>(
     conn: &mut Connection<S>,
-    known: Option<u64>,
     movement: &Movement,
     reply: &Reply,
 ) -> Result<(), Error>
-    ensures changed { Soundly S.Store conn.old conn.new (IsDesk (tables S.Store conn.old) → IfSome known (λ n. n ≡ length (content_in (tables S.Store conn.old)).register) → (room : ℕ) → CanAppend room (Issue movement.now) reply.now (content_in (tables S.Store conn.old)) → OnOk result (Becomes (tables S.Store conn.new) (appended (Issue movement.now) reply.now (content_in (tables S.Store conn.old))))) }
+    ensures changed { Soundly S.Store conn.old conn.new (IsDesk (tables S.Store conn.old) → (room : ℕ) → CanAppend room (Issue movement.now) reply.now (content_in (tables S.Store conn.old)) → OnOk result (Becomes (tables S.Store conn.new) (appended (Issue movement.now) reply.now (content_in (tables S.Store conn.old))))) }
     ensures write { Writes S.Store conn.old conn.new result }
-    ensures blame { Soundly S.Store conn.old conn.new (IsDesk (tables S.Store conn.old) → IfSome known (λ n. n ≡ length (content_in (tables S.Store conn.old)).register) → (room : ℕ) → room < 1_000_000_000 → CanAppend room (Issue movement.now) reply.now (content_in (tables S.Store conn.old)) → FailsForCause S.Store conn.old conn.new result) }
+    ensures blame { Soundly S.Store conn.old conn.new (IsDesk (tables S.Store conn.old) → (room : ℕ) → room < 1_000_000_000 → CanAppend room (Issue movement.now) reply.now (content_in (tables S.Store conn.old)) → FailsForCause S.Store conn.old conn.new result) }
 {
     named(movement.isin);
     let held = AmountKey::Balance(movement.account, movement.isin);
     let outstanding = AmountKey::Security(movement.isin);
-    add_row(conn, known, &Entry::Issue(*movement), reply)?;
+    add_row(conn, &Entry::Issue(*movement), reply)?;
     put(conn, &held, movement.quantity)?;
     put(conn, &outstanding, movement.quantity)
 }
@@ -140,18 +131,17 @@ fn append_issue<S: Alter>(
 /// Adds a redemption, and takes its quantity off the account and off what is outstanding.
 fn append_redeem<S: Alter>(
     conn: &mut Connection<S>,
-    known: Option<u64>,
     movement: &Movement,
     reply: &Reply,
 ) -> Result<(), Error>
-    ensures changed { Soundly S.Store conn.old conn.new (IsDesk (tables S.Store conn.old) → IfSome known (λ n. n ≡ length (content_in (tables S.Store conn.old)).register) → (room : ℕ) → CanAppend room (Redeem movement.now) reply.now (content_in (tables S.Store conn.old)) → OnOk result (Becomes (tables S.Store conn.new) (appended (Redeem movement.now) reply.now (content_in (tables S.Store conn.old))))) }
+    ensures changed { Soundly S.Store conn.old conn.new (IsDesk (tables S.Store conn.old) → (room : ℕ) → CanAppend room (Redeem movement.now) reply.now (content_in (tables S.Store conn.old)) → OnOk result (Becomes (tables S.Store conn.new) (appended (Redeem movement.now) reply.now (content_in (tables S.Store conn.old))))) }
     ensures write { Writes S.Store conn.old conn.new result }
-    ensures blame { Soundly S.Store conn.old conn.new (IsDesk (tables S.Store conn.old) → IfSome known (λ n. n ≡ length (content_in (tables S.Store conn.old)).register) → (room : ℕ) → room < 1_000_000_000 → CanAppend room (Redeem movement.now) reply.now (content_in (tables S.Store conn.old)) → FailsForCause S.Store conn.old conn.new result) }
+    ensures blame { Soundly S.Store conn.old conn.new (IsDesk (tables S.Store conn.old) → (room : ℕ) → room < 1_000_000_000 → CanAppend room (Redeem movement.now) reply.now (content_in (tables S.Store conn.old)) → FailsForCause S.Store conn.old conn.new result) }
 {
     named(movement.isin);
     let held = AmountKey::Balance(movement.account, movement.isin);
     let outstanding = AmountKey::Security(movement.isin);
-    add_row(conn, known, &Entry::Redeem(*movement), reply)?;
+    add_row(conn, &Entry::Redeem(*movement), reply)?;
     take_off(conn, &held, movement.quantity)?;
     take_off(conn, &outstanding, movement.quantity)
 }
@@ -159,17 +149,16 @@ fn append_redeem<S: Alter>(
 /// Adds a pay in, and puts its amount on the participant's balance and on what is paid of the currency.
 fn append_pay_in<S: Alter>(
     conn: &mut Connection<S>,
-    known: Option<u64>,
     payment: &Payment,
     reply: &Reply,
 ) -> Result<(), Error>
-    ensures changed { Soundly S.Store conn.old conn.new (IsDesk (tables S.Store conn.old) → IfSome known (λ n. n ≡ length (content_in (tables S.Store conn.old)).register) → (room : ℕ) → CanAppend room (PayIn payment.now) reply.now (content_in (tables S.Store conn.old)) → OnOk result (Becomes (tables S.Store conn.new) (appended (PayIn payment.now) reply.now (content_in (tables S.Store conn.old))))) }
+    ensures changed { Soundly S.Store conn.old conn.new (IsDesk (tables S.Store conn.old) → (room : ℕ) → CanAppend room (PayIn payment.now) reply.now (content_in (tables S.Store conn.old)) → OnOk result (Becomes (tables S.Store conn.new) (appended (PayIn payment.now) reply.now (content_in (tables S.Store conn.old))))) }
     ensures write { Writes S.Store conn.old conn.new result }
-    ensures blame { Soundly S.Store conn.old conn.new (IsDesk (tables S.Store conn.old) → IfSome known (λ n. n ≡ length (content_in (tables S.Store conn.old)).register) → (room : ℕ) → room < 1_000_000_000 → CanAppend room (PayIn payment.now) reply.now (content_in (tables S.Store conn.old)) → FailsForCause S.Store conn.old conn.new result) }
+    ensures blame { Soundly S.Store conn.old conn.new (IsDesk (tables S.Store conn.old) → (room : ℕ) → room < 1_000_000_000 → CanAppend room (PayIn payment.now) reply.now (content_in (tables S.Store conn.old)) → FailsForCause S.Store conn.old conn.new result) }
 {
     let cash = AmountKey::Cash(payment.bic, payment.ccy);
     let paid = AmountKey::Currency(payment.ccy);
-    add_row(conn, known, &Entry::PayIn(*payment), reply)?;
+    add_row(conn, &Entry::PayIn(*payment), reply)?;
     put(conn, &cash, payment.amount)?;
     put(conn, &paid, payment.amount)
 }
@@ -177,17 +166,16 @@ fn append_pay_in<S: Alter>(
 /// Adds a pay out, and takes its amount off the participant's balance and off what is paid of the currency.
 fn append_pay_out<S: Alter>(
     conn: &mut Connection<S>,
-    known: Option<u64>,
     payment: &Payment,
     reply: &Reply,
 ) -> Result<(), Error>
-    ensures changed { Soundly S.Store conn.old conn.new (IsDesk (tables S.Store conn.old) → IfSome known (λ n. n ≡ length (content_in (tables S.Store conn.old)).register) → (room : ℕ) → CanAppend room (PayOut payment.now) reply.now (content_in (tables S.Store conn.old)) → OnOk result (Becomes (tables S.Store conn.new) (appended (PayOut payment.now) reply.now (content_in (tables S.Store conn.old))))) }
+    ensures changed { Soundly S.Store conn.old conn.new (IsDesk (tables S.Store conn.old) → (room : ℕ) → CanAppend room (PayOut payment.now) reply.now (content_in (tables S.Store conn.old)) → OnOk result (Becomes (tables S.Store conn.new) (appended (PayOut payment.now) reply.now (content_in (tables S.Store conn.old))))) }
     ensures write { Writes S.Store conn.old conn.new result }
-    ensures blame { Soundly S.Store conn.old conn.new (IsDesk (tables S.Store conn.old) → IfSome known (λ n. n ≡ length (content_in (tables S.Store conn.old)).register) → (room : ℕ) → room < 1_000_000_000 → CanAppend room (PayOut payment.now) reply.now (content_in (tables S.Store conn.old)) → FailsForCause S.Store conn.old conn.new result) }
+    ensures blame { Soundly S.Store conn.old conn.new (IsDesk (tables S.Store conn.old) → (room : ℕ) → room < 1_000_000_000 → CanAppend room (PayOut payment.now) reply.now (content_in (tables S.Store conn.old)) → FailsForCause S.Store conn.old conn.new result) }
 {
     let cash = AmountKey::Cash(payment.bic, payment.ccy);
     let paid = AmountKey::Currency(payment.ccy);
-    add_row(conn, known, &Entry::PayOut(*payment), reply)?;
+    add_row(conn, &Entry::PayOut(*payment), reply)?;
     take_off(conn, &cash, payment.amount)?;
     take_off(conn, &paid, payment.amount)
 }
@@ -195,35 +183,32 @@ fn append_pay_out<S: Alter>(
 /// Adds an instruction, which is unmatched yet.
 fn append_instruct<S: Alter>(
     conn: &mut Connection<S>,
-    known: Option<u64>,
     instructed: &Instructed,
     reply: &Reply,
 ) -> Result<(), Error>
-    ensures changed { Soundly S.Store conn.old conn.new (IsDesk (tables S.Store conn.old) → IfSome known (λ n. n ≡ length (content_in (tables S.Store conn.old)).register) → (room : ℕ) → CanAppend room (Instruct instructed.now.sender instructed.now.instruction) reply.now (content_in (tables S.Store conn.old)) → OnOk result (Becomes (tables S.Store conn.new) (appended (Instruct instructed.now.sender instructed.now.instruction) reply.now (content_in (tables S.Store conn.old))))) }
+    ensures changed { Soundly S.Store conn.old conn.new (IsDesk (tables S.Store conn.old) → (room : ℕ) → CanAppend room (Instruct instructed.now.sender instructed.now.instruction) reply.now (content_in (tables S.Store conn.old)) → OnOk result (Becomes (tables S.Store conn.new) (appended (Instruct instructed.now.sender instructed.now.instruction) reply.now (content_in (tables S.Store conn.old))))) }
     ensures write { Writes S.Store conn.old conn.new result }
-    ensures blame { Soundly S.Store conn.old conn.new (IsDesk (tables S.Store conn.old) → IfSome known (λ n. n ≡ length (content_in (tables S.Store conn.old)).register) → (room : ℕ) → room < 1_000_000_000 → CanAppend room (Instruct instructed.now.sender instructed.now.instruction) reply.now (content_in (tables S.Store conn.old)) → FailsForCause S.Store conn.old conn.new result) }
+    ensures blame { Soundly S.Store conn.old conn.new (IsDesk (tables S.Store conn.old) → (room : ℕ) → room < 1_000_000_000 → CanAppend room (Instruct instructed.now.sender instructed.now.instruction) reply.now (content_in (tables S.Store conn.old)) → FailsForCause S.Store conn.old conn.new result) }
 {
     let entry = Entry::Instruct {
         sender: instructed.sender,
         instruction: instructed.instruction,
     };
-    let number = add_row(conn, known, &entry, reply)?;
-    add_standing(conn, number)?;
-    note_unmatched(conn, number, instructed)
+    let number = add_row(conn, &entry, reply)?;
+    add_standing(conn, number)
 }
 
 /// Adds a cancellation, and notes the request at the instruction that it names: of those that can be added, each names
 /// one, by its sender and its reference.
 fn append_cancel<S: Alter>(
     conn: &mut Connection<S>,
-    known: Option<u64>,
     sender: Bic,
     order: &CancelOrder,
     reply: &Reply,
 ) -> Result<(), Error>
-    ensures changed { Soundly S.Store conn.old conn.new (IsDesk (tables S.Store conn.old) → IfSome known (λ n. n ≡ length (content_in (tables S.Store conn.old)).register) → (room : ℕ) → CanAppend room (Cancel sender order.now) reply.now (content_in (tables S.Store conn.old)) → OnOk result (Becomes (tables S.Store conn.new) (appended (Cancel sender order.now) reply.now (content_in (tables S.Store conn.old))))) }
+    ensures changed { Soundly S.Store conn.old conn.new (IsDesk (tables S.Store conn.old) → (room : ℕ) → CanAppend room (Cancel sender order.now) reply.now (content_in (tables S.Store conn.old)) → OnOk result (Becomes (tables S.Store conn.new) (appended (Cancel sender order.now) reply.now (content_in (tables S.Store conn.old))))) }
     ensures write { Writes S.Store conn.old conn.new result }
-    ensures blame { Soundly S.Store conn.old conn.new (IsDesk (tables S.Store conn.old) → IfSome known (λ n. n ≡ length (content_in (tables S.Store conn.old)).register) → (room : ℕ) → room < 1_000_000_000 → CanAppend room (Cancel sender order.now) reply.now (content_in (tables S.Store conn.old)) → FailsForCause S.Store conn.old conn.new result) }
+    ensures blame { Soundly S.Store conn.old conn.new (IsDesk (tables S.Store conn.old) → (room : ℕ) → room < 1_000_000_000 → CanAppend room (Cancel sender order.now) reply.now (content_in (tables S.Store conn.old)) → FailsForCause S.Store conn.old conn.new result) }
 {
     let Some(number) = number_of(conn, Sender::Participant(sender), order.previous)? else {
         return Err(CORRUPT);
@@ -233,30 +218,25 @@ fn append_cancel<S: Alter>(
         sender,
         order: *order,
     };
-    add_row(conn, known, &entry, reply)?;
+    add_row(conn, &entry, reply)?;
     ask(conn, named)
 }
 
-/// Adds an entry with its reply, and what it moves, asks for and waits for; how many entries there are before may be known.
-pub fn append<S: Alter>(
-    conn: &mut Connection<S>,
-    known: Option<u64>,
-    entry: &Entry,
-    reply: &Reply,
-) -> Result<(), Error>
-    ensures changed { Soundly S.Store conn.old conn.new (IsDesk (tables S.Store conn.old) → IfSome known (λ n. n ≡ length (content_in (tables S.Store conn.old)).register) → (room : ℕ) → CanAppend room entry.now reply.now (content_in (tables S.Store conn.old)) → OnOk result (Becomes (tables S.Store conn.new) (appended entry.now reply.now (content_in (tables S.Store conn.old))))) }
+/// Adds an entry with its reply, and what it moves, asks for and waits for.
+pub fn append<S: Alter>(conn: &mut Connection<S>, entry: &Entry, reply: &Reply) -> Result<(), Error>
+    ensures changed { Soundly S.Store conn.old conn.new (IsDesk (tables S.Store conn.old) → (room : ℕ) → CanAppend room entry.now reply.now (content_in (tables S.Store conn.old)) → OnOk result (Becomes (tables S.Store conn.new) (appended entry.now reply.now (content_in (tables S.Store conn.old))))) }
     ensures write { Writes S.Store conn.old conn.new result }
-    ensures blame { Soundly S.Store conn.old conn.new (IsDesk (tables S.Store conn.old) → IfSome known (λ n. n ≡ length (content_in (tables S.Store conn.old)).register) → (room : ℕ) → room < 1_000_000_000 → CanAppend room entry.now reply.now (content_in (tables S.Store conn.old)) → FailsForCause S.Store conn.old conn.new result) }
+    ensures blame { Soundly S.Store conn.old conn.new (IsDesk (tables S.Store conn.old) → (room : ℕ) → room < 1_000_000_000 → CanAppend room entry.now reply.now (content_in (tables S.Store conn.old)) → FailsForCause S.Store conn.old conn.new result) }
 {
     match entry {
         Entry::Participant { .. }
         | Entry::Account { .. }
         | Entry::Security { .. }
-        | Entry::Run { .. } => append_alone(conn, known, entry, reply),
-        Entry::Issue(movement) => append_issue(conn, known, movement, reply),
-        Entry::Redeem(movement) => append_redeem(conn, known, movement, reply),
-        Entry::PayIn(payment) => append_pay_in(conn, known, payment, reply),
-        Entry::PayOut(payment) => append_pay_out(conn, known, payment, reply),
+        | Entry::Run { .. } => append_alone(conn, entry, reply),
+        Entry::Issue(movement) => append_issue(conn, movement, reply),
+        Entry::Redeem(movement) => append_redeem(conn, movement, reply),
+        Entry::PayIn(payment) => append_pay_in(conn, payment, reply),
+        Entry::PayOut(payment) => append_pay_out(conn, payment, reply),
         Entry::Instruct {
             sender,
             instruction,
@@ -265,8 +245,8 @@ pub fn append<S: Alter>(
                 sender: *sender,
                 instruction: *instruction,
             };
-            append_instruct(conn, known, &instructed, reply)
+            append_instruct(conn, &instructed, reply)
         }
-        Entry::Cancel { sender, order } => append_cancel(conn, known, *sender, order, reply),
+        Entry::Cancel { sender, order } => append_cancel(conn, *sender, order, reply),
     }
 }

@@ -1,15 +1,18 @@
 //! The calls of a register in SQL.
 
-use crate::counting::{count_entries, count_messages};
+use crate::fault::{fault_of, told};
 use crate::sql_register::SqlRegister;
 use crate::undoing::take_back;
-use crate::{cancelling, looking, pairing, settling};
+use crate::{appending, cancelling, looking, pairing, sending, settling, walking};
 use desk_codes::{AccountId, Bic, Ccy, Day, Isin, Reference};
 use desk_msg::{Instruction, Kind};
 use desk_register::{Fault, Holding, KnownPair, Outcome, Register, Stage, ToldRegister};
 use desk_rules::{Entry, Lack, Place, Reply, Sender, Sent, Standing};
-use sql_entries::{last_run, number_of, reply_at, security_after};
-use sql_sent::{confirmation_of, sent_at};
+use sql_entries::{
+    entry_at, entry_count, is_participant, kind_of, last_run, number_of, owner_of, reply_at,
+    security_after,
+};
+use sql_sent::{confirmation_of, sent_at, sent_count};
 use sql_standings::standings::standing;
 use sql_tables::control;
 use sqlite::Alter;
@@ -26,34 +29,34 @@ impl<S: Alter> Register for SqlRegister<S> {
     fn begin(&mut self, _alloc: Global) -> Result<(), Fault> {
         match control::begin(&mut self.conn) {
             Ok(_) => {
-                self.course.stage = Stage::Begun;
+                self.stage = Stage::Begun;
                 Ok(())
             }
-            Err(error) => Err(self.course.fault_of(error)),
+            Err(error) => Err(fault_of(error)),
         }
     }
 
     fn commit(&mut self, _alloc: Global) -> Result<(), Fault> {
         match control::commit(&mut self.conn) {
             Ok(_) => {
-                self.course.stage = Stage::Idle;
+                self.stage = Stage::Idle;
                 Ok(())
             }
             Err(error) => {
-                self.course.stage = Stage::Failed;
-                Err(self.course.fault_of(error))
+                self.stage = Stage::Failed;
+                Err(fault_of(error))
             }
         }
     }
 
     fn back(&mut self, _alloc: Global) -> Result<(), Fault> {
-        self.course.stage = Stage::Failed;
+        self.stage = Stage::Failed;
         match take_back(&mut self.conn) {
             Ok(()) => {
-                self.course.taken_back();
+                self.stage = Stage::Idle;
                 Ok(())
             }
-            Err(error) => Err(self.course.fault_of(error)),
+            Err(error) => Err(fault_of(error)),
         }
     }
 
@@ -62,36 +65,31 @@ impl<S: Alter> Register for SqlRegister<S> {
     }
 
     fn count(&mut self, _alloc: Global) -> Result<u64, Fault> {
-        let known = self.course.known.entries;
-        self.course
-            .told_entries(count_entries(&mut self.conn, known))
+        told(&mut self.stage, entry_count(&mut self.conn))
     }
 
-    fn participant(&mut self, alloc: Global, bic: Bic) -> Result<bool, Fault> {
-        let found = looking::participant(&mut self.conn, &self.course.known.facts, bic);
-        self.course.told_participant(alloc, bic, found)
+    fn participant(&mut self, _alloc: Global, bic: Bic) -> Result<bool, Fault> {
+        told(&mut self.stage, is_participant(&mut self.conn, bic))
     }
 
-    fn owner(&mut self, alloc: Global, account: AccountId) -> Result<Option<Bic>, Fault> {
-        let found = looking::owner(&mut self.conn, &self.course.known.facts, account);
-        self.course.told_owner(alloc, account, found)
+    fn owner(&mut self, _alloc: Global, account: AccountId) -> Result<Option<Bic>, Fault> {
+        told(&mut self.stage, owner_of(&mut self.conn, account))
     }
 
-    fn security(&mut self, alloc: Global, isin: Isin) -> Result<Option<Kind>, Fault> {
-        let found = looking::security(&mut self.conn, &self.course.known.facts, isin);
-        self.course.told_kind(alloc, isin, found)
+    fn security(&mut self, _alloc: Global, isin: Isin) -> Result<Option<Kind>, Fault> {
+        told(&mut self.stage, kind_of(&mut self.conn, isin))
     }
 
     fn outstanding(&mut self, _alloc: Global, isin: Isin) -> Result<u64, Fault> {
-        self.course.told(looking::outstanding(&mut self.conn, isin))
+        told(&mut self.stage, looking::outstanding(&mut self.conn, isin))
     }
 
     fn paid(&mut self, _alloc: Global, ccy: Ccy) -> Result<Option<u64>, Fault> {
-        self.course.told(looking::paid(&mut self.conn, ccy))
+        told(&mut self.stage, looking::paid(&mut self.conn, ccy))
     }
 
     fn last_run(&mut self, _alloc: Global) -> Result<Option<Day>, Fault> {
-        self.course.told(last_run(&mut self.conn))
+        told(&mut self.stage, last_run(&mut self.conn))
     }
 
     fn number_of(
@@ -100,21 +98,22 @@ impl<S: Alter> Register for SqlRegister<S> {
         sender: Sender,
         reference: Reference,
     ) -> Result<Option<u64>, Fault> {
-        self.course
-            .told(number_of(&mut self.conn, sender, reference))
+        told(
+            &mut self.stage,
+            number_of(&mut self.conn, sender, reference),
+        )
     }
 
     fn entry(&mut self, alloc: Global, number: u64) -> Result<Option<Entry>, Fault> {
-        let found = looking::entry(&mut self.conn, &mut self.course.known.facts, alloc, number);
-        self.course.told(found)
+        told(&mut self.stage, entry_at(&mut self.conn, alloc, number))
     }
 
     fn standing(&mut self, _alloc: Global, number: u64) -> Result<Standing, Fault> {
-        self.course.told(standing(&mut self.conn, number))
+        told(&mut self.stage, standing(&mut self.conn, number))
     }
 
     fn reply(&mut self, alloc: Global, number: u64) -> Result<Option<Reply>, Fault> {
-        self.course.told(reply_at(&mut self.conn, alloc, number))
+        told(&mut self.stage, reply_at(&mut self.conn, alloc, number))
     }
 
     fn first_opposite(
@@ -123,26 +122,33 @@ impl<S: Alter> Register for SqlRegister<S> {
         sender: Bic,
         instruction: &Instruction,
     ) -> Result<Option<u64>, Fault> {
-        self.course.told(looking::first_opposite(&mut self.conn, sender, instruction))
+        told(
+            &mut self.stage,
+            walking::first_opposite(&mut self.conn, sender, instruction),
+        )
     }
 
     fn position(&mut self, _alloc: Global, account: AccountId, isin: Isin) -> Result<u64, Fault> {
-        self.course
-            .told(looking::position(&mut self.conn, account, isin))
+        told(
+            &mut self.stage,
+            looking::position(&mut self.conn, account, isin),
+        )
     }
 
     fn cash(&mut self, _alloc: Global, bic: Bic, ccy: Ccy) -> Result<u64, Fault> {
-        self.course.told(looking::cash(&mut self.conn, bic, ccy))
+        told(&mut self.stage, looking::cash(&mut self.conn, bic, ccy))
     }
 
     fn due_pair_after(
         &mut self,
-        _alloc: Global,
+        alloc: Global,
         day: Day,
         place: Option<Place>,
     ) -> Result<Option<Place>, Fault> {
-        self.course
-            .told(looking::due_pair_after(&mut self.conn, day, place))
+        told(
+            &mut self.stage,
+            walking::due_pair_after(&mut self.conn, alloc, day, place),
+        )
     }
 
     fn security_after(
@@ -150,7 +156,7 @@ impl<S: Alter> Register for SqlRegister<S> {
         _alloc: Global,
         isin: Option<Isin>,
     ) -> Result<Option<Isin>, Fault> {
-        self.course.told(security_after(&mut self.conn, isin))
+        told(&mut self.stage, security_after(&mut self.conn, isin))
     }
 
     fn holding_after(
@@ -159,64 +165,69 @@ impl<S: Alter> Register for SqlRegister<S> {
         account: AccountId,
         isin: Option<Isin>,
     ) -> Result<Option<Holding>, Fault> {
-        self.course
-            .told(looking::holding_after(&mut self.conn, account, isin))
+        told(
+            &mut self.stage,
+            looking::holding_after(&mut self.conn, account, isin),
+        )
     }
 
     fn held(&mut self, _alloc: Global, isin: Isin) -> Result<u64, Fault> {
-        self.course.told(looking::held(&mut self.conn, isin))
+        told(&mut self.stage, looking::held(&mut self.conn, isin))
     }
 
     fn held_cash(&mut self, _alloc: Global, ccy: Ccy) -> Result<u64, Fault> {
-        self.course.told(looking::held_cash(&mut self.conn, ccy))
+        told(&mut self.stage, looking::held_cash(&mut self.conn, ccy))
     }
 
     fn sent_count(&mut self, _alloc: Global) -> Result<u64, Fault> {
-        let known = self.course.known.messages;
-        self.course
-            .told_messages(count_messages(&mut self.conn, known))
+        told(&mut self.stage, sent_count(&mut self.conn))
     }
 
     fn sent(&mut self, alloc: Global, bic: Bic, number: u64) -> Result<Option<Sent>, Fault> {
-        self.course
-            .told(sent_at(&mut self.conn, alloc, bic, number))
+        told(&mut self.stage, sent_at(&mut self.conn, alloc, bic, number))
     }
 
     fn confirmation(&mut self, alloc: Global, number: u64) -> Result<Option<Sent>, Fault> {
-        self.course
-            .told(confirmation_of(&mut self.conn, alloc, number))
+        told(
+            &mut self.stage,
+            confirmation_of(&mut self.conn, alloc, number),
+        )
     }
 
-    fn append(&mut self, alloc: Global, entry: Entry, reply: Reply) -> Result<(), Fault> {
-        self.count(alloc)?;
-        self.add_entry(alloc, entry, reply)
+    fn append(&mut self, _alloc: Global, entry: Entry, reply: Reply) -> Result<(), Fault> {
+        told(
+            &mut self.stage,
+            appending::append(&mut self.conn, &entry, &reply),
+        )
     }
 
-    fn pair(&mut self, alloc: Global, earlier: u64, later: u64) -> Result<(), Fault> {
-        let facts = &mut self.course.known.facts;
-        let paired = pairing::pair(&mut self.conn, facts, alloc, earlier, later);
-        self.course.told(paired)
+    fn pair(&mut self, _alloc: Global, earlier: u64, later: u64) -> Result<(), Fault> {
+        told(
+            &mut self.stage,
+            pairing::pair(&mut self.conn, earlier, later),
+        )
     }
 
-    fn settle_pair(&mut self, alloc: Global, number: u64, day: Day) -> Result<Outcome, Fault> {
-        let facts = &mut self.course.known.facts;
-        let tried = settling::settle_pair(&mut self.conn, facts, alloc, number, day);
-        self.course.told(tried)
+    fn settle_pair(&mut self, alloc: Global, number: u64, _day: Day) -> Result<Outcome, Fault> {
+        told(
+            &mut self.stage,
+            settling::settle_pair(&mut self.conn, alloc, number),
+        )
     }
 
     fn cancel(&mut self, _alloc: Global, number: u64) -> Result<(), Fault> {
-        self.course.told(cancelling::cancel(&mut self.conn, number))
+        told(&mut self.stage, cancelling::cancel(&mut self.conn, number))
     }
 
-    fn cancel_pair(&mut self, alloc: Global, earlier: u64, later: u64) -> Result<(), Fault> {
-        let facts = &mut self.course.known.facts;
-        let cancelled = pairing::cancel_pair(&mut self.conn, facts, alloc, earlier, later);
-        self.course.told(cancelled)
+    fn cancel_pair(&mut self, _alloc: Global, earlier: u64, later: u64) -> Result<(), Fault> {
+        told(
+            &mut self.stage,
+            pairing::cancel_pair(&mut self.conn, earlier, later),
+        )
     }
 
-    fn send(&mut self, alloc: Global, message: Sent) -> Result<(), Fault> {
-        self.sent_count(alloc)?;
-        self.add_message(alloc, message)
+    fn send(&mut self, _alloc: Global, message: Sent) -> Result<(), Fault> {
+        told(&mut self.stage, sending::send(&mut self.conn, &message))
     }
 }
 
@@ -228,8 +239,10 @@ impl<S: Alter> ToldRegister for SqlRegister<S> {
         later: u64,
         lack: Lack,
     ) -> Result<(), Fault> {
-        self.course
-            .told(settling::wait_for(&mut self.conn, earlier, later, lack))
+        told(
+            &mut self.stage,
+            settling::wait_for(&mut self.conn, earlier, later, lack),
+        )
     }
 
     fn settle_told(
@@ -238,7 +251,6 @@ impl<S: Alter> ToldRegister for SqlRegister<S> {
         pair: &KnownPair,
         _day: Day,
     ) -> Result<Outcome, Fault> {
-        self.course
-            .told(settling::settle_told(&mut self.conn, pair))
+        told(&mut self.stage, settling::settle_told(&mut self.conn, pair))
     }
 }

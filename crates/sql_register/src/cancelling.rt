@@ -8,7 +8,6 @@ ghost use Rattle.sql_tables.specs.Calls.{FailsForCause, Soundly, Writes, tables}
 use crate::numbers::checked;
 use desk_rules::State;
 use sql_standings::standings::set_state;
-use sql_standings::unmatched::forget_unmatched;
 use sqlite::{Alter, Connection, Error};
 
 /// Lets an unmatched instruction stand cancelled.
@@ -18,6 +17,5 @@ pub fn cancel<S: Alter>(conn: &mut Connection<S>, number: u64) -> Result<(), Err
     ensures blame { Soundly S.Store conn.old conn.new (IsDesk (tables S.Store conn.old) → CanCancel (content_in (tables S.Store conn.old)) number → FailsForCause S.Store conn.old conn.new result) }
 {
     let number = checked(number)?;
-    set_state(conn, number, State::Cancelled)?;
-    forget_unmatched(conn, number)
+    set_state(conn, number, State::Cancelled)
 }

@@ -3,29 +3,24 @@
 //!
 //! `sql_register.rt` has the struct, `making.rt` makes one in a database that has no table, or over tables that are a desk's,
 //! and `calls.rt` has the calls of the law: each is one function over a connection, whose end `fault.rt` tells of the register.
-//! `looking` finds, `adding`, `appending`, `pairing`, `settling`, `cancelling` and `sending` change, `undoing` takes a transaction back,
-//! and `numbers` says which numbers the tables can hold. `known.rt` is what a register knows of its tables beside them,
-//! `facts.rt` what it found among the entries, in slots of `slots.rt`, and `counting` asks for a number that is not known.
-//! Begin with specs/Content.antt, what the tables say, and specs/Holds.antt, what they keep true.
+//! `looking` finds what stands in one row, `walking` what is found among many, `appending`, `pairing`, `settling`, `cancelling` and
+//! `sending` change, `undoing` takes a transaction back, and `numbers` says which numbers the tables can hold. Nothing is known of the
+//! tables beside them. Begin with specs/Content.antt, what the tables say, and specs/Holds.antt, what they keep true.
 #![tactic(auto)]
 
-mod adding;
 mod appending;
 mod calls;
 mod cancelling;
-mod counting;
-mod facts;
 mod fault;
-mod known;
 mod looking;
 mod making;
 mod numbers;
 mod pairing;
 mod sending;
 mod settling;
-mod slots;
 mod sql_register;
 mod undoing;
+mod walking;
 
 pub use making::has_no_table;
 pub use sql_register::SqlRegister;

@@ -17,8 +17,6 @@ ghost use Rattle.sql_register.specs.Holds.{Becomes};
 ghost use Rattle.sql_register.specs.Kept.{shown, IsKept};
 ghost use Rattle.sql_register.specs.Made.{IsMade};
 
-use crate::fault::Course;
-use crate::known::Known;
 use crate::sql_register::SqlRegister;
 use desk_register::Stage;
 use sql_tables::control::commit;
@@ -113,10 +111,7 @@ impl<S: Alter + Drop> SqlRegister<S> {
     {
         SqlRegister {
             conn,
-            course: Course {
-                stage: Stage::Idle,
-                known: Known::nothing(),
-            },
+            stage: Stage::Idle,
             limit,
         }
     }

@@ -1,31 +1,24 @@
 //! A matched pair is tried: it settles, or it lacks something.
 ghost use Rattle.std.specs.Prelude.{◌≡◌, ◌≢◌, ℕ, ◌+◌, ◌<◌, ◌^◌, [], true, Some, IfOk, OnOk};
 ghost use Rattle.sqlite.specs.Held.{state};
-ghost use Rattle.desk_codes.specs.Number.{number_of};
 ghost use Rattle.desk_rules.specs.declared.history.entry.Instructed.{Instructed};
 ghost use Rattle.sql_tables.specs.Calls.{FailsForCause, Looks, Soundly, Writes, tables};
 ghost use Rattle.sql_tables.specs.Ends.{Stays};
 ghost use Rattle.sql_amounts.specs.Amounts.{AreAmounts};
 ghost use Rattle.desk_register.specs.Changes.{CanCancelPair, CanSettle, FitsCash, IsPairAt, SidesFit, TriesPair};
 ghost use Rattle.desk_register.specs.Told.{IsKnownAt, waiting};
-ghost use Rattle.sql_standings.specs.Due.{AreDue};
-ghost use Rattle.sql_standings.specs.Standings.{AreStandings};
 ghost use Rattle.sql_register.specs.Content.{content_in};
-ghost use Rattle.sql_register.specs.Facts.{AreFactsOf};
 ghost use Rattle.sql_register.specs.Holds.{Becomes, IsDesk};
-ghost use Rattle.sql_register.specs.Pairs.{StandAlready};
-ghost use Rattle.sql_register.specs.Settling.{state_then, more_held, more_cash, AmountsSo, Closes, Frees, IsMarked, IsTrial, MovesBoth, MovesLegs, TakesCash, TakesHeld};
+ghost use Rattle.sql_register.specs.Settling.{state_then, more_held, more_cash, AmountsSo, IsMarked, IsTrial, MovesBoth, MovesLegs, TakesCash, TakesHeld};
 
-use crate::facts::Facts;
 use crate::looking::instruction;
 use crate::numbers::in_order;
 use crate::pairing::stand_both;
-use desk_codes::{AccountId, Bic, Day, Isin};
+use desk_codes::{AccountId, Bic, Isin};
 use desk_msg::{Cash, Reason};
 use desk_register::{KnownPair, Outcome};
 use desk_rules::{Instructed, Lack, State};
 use sql_amounts::{AmountKey, put, take};
-use sql_standings::due::forget_due;
 use sql_standings::standings::standing;
 use sql_tables::control::{go_back, release, save};
 use sql_tables::values::CORRUPT;
@@ -144,24 +137,6 @@ fn state_then(outcome: Outcome) -> State
     }
 }
 
-/// Lets a pair that is settled be due no more.
-fn free<S: Alter>(
-    conn: &mut Connection<S>,
-    day: Day,
-    number: u64,
-    outcome: Outcome,
-) -> Result<(), Error>
-    requires { number < 1_000_000_000 }
-    ensures changed { Soundly S.Store conn.old conn.new (AreDue (tables S.Store conn.old) → OnOk result (Frees (tables S.Store conn.old) (tables S.Store conn.new) (number_of day) number outcome)) }
-    ensures write { Writes S.Store conn.old conn.new result }
-    ensures blame { Soundly S.Store conn.old conn.new (FailsForCause S.Store conn.old conn.new result) }
-{
-    match outcome {
-        Outcome::Settled => forget_due(conn, day, number),
-        Outcome::Lacks(_) => Ok(()),
-    }
-}
-
 /// The number of the mate of an instruction.
 fn mate_of<S: Alter>(conn: &mut Connection<S>, number: u64) -> Result<u64, Error>
     ensures value { Soundly S.Store conn.old conn.new (IsDesk (tables S.Store conn.old) → IfOk result (λ mate. ((content_in (tables S.Store conn.old)).standing number).mate ≡ Some mate)) }
@@ -178,42 +153,22 @@ fn mate_of<S: Alter>(conn: &mut Connection<S>, number: u64) -> Result<u64, Error
 /// The pair of the later instruction's number.
 fn pair_at<S: Alter>(
     conn: &mut Connection<S>,
-    facts: &mut Facts,
     alloc: Global,
     number: u64,
 ) -> Result<KnownPair, Error>
-    ensures value { Soundly S.Store conn.old conn.new (IsDesk (tables S.Store conn.old) → AreFactsOf facts.old (content_in (tables S.Store conn.old)).register → IfOk result (λ p. (p.number ≡ number) × IsPairAt (content_in (tables S.Store conn.old)) number p.mate p.earlier p.later)) }
-    ensures noted { Soundly S.Store conn.old conn.new (IsDesk (tables S.Store conn.old) → AreFactsOf facts.old (content_in (tables S.Store conn.old)).register → OnOk result (AreFactsOf facts.new (content_in (tables S.Store conn.old)).register)) }
+    ensures value { Soundly S.Store conn.old conn.new (IsDesk (tables S.Store conn.old) → IfOk result (λ p. (p.number ≡ number) × IsPairAt (content_in (tables S.Store conn.old)) number p.mate p.earlier p.later)) }
     ensures look { Looks S.Store conn.old conn.new result }
-    ensures blame { Soundly S.Store conn.old conn.new (IsDesk (tables S.Store conn.old) → AreFactsOf facts.old (content_in (tables S.Store conn.old)).register → (mate : ℕ) (earlier later : Instructed) → IsPairAt (content_in (tables S.Store conn.old)) number mate earlier later → FailsForCause S.Store conn.old conn.new result) }
+    ensures blame { Soundly S.Store conn.old conn.new (IsDesk (tables S.Store conn.old) → (mate : ℕ) (earlier later : Instructed) → IsPairAt (content_in (tables S.Store conn.old)) number mate earlier later → FailsForCause S.Store conn.old conn.new result) }
 {
-    let later = instruction(conn, facts, alloc, number)?;
+    let later = instruction(conn, alloc, number)?;
     let mate = mate_of(conn, number)?;
-    let earlier = instruction(conn, facts, alloc, mate)?;
+    let earlier = instruction(conn, alloc, mate)?;
     Ok(KnownPair {
         mate,
         number,
         earlier,
         later,
     })
-}
-
-/// Lets both instructions of a pair stand as it fared.
-fn close<S: Alter>(
-    conn: &mut Connection<S>,
-    pair: &KnownPair,
-    outcome: Outcome,
-) -> Result<(), Error>
-    requires first { 0 < pair.now.mate }
-    requires order { pair.now.mate < pair.now.number }
-    requires small { pair.now.number < 1_000_000_000 }
-    ensures changed { Soundly S.Store conn.old conn.new (AreStandings (tables S.Store conn.old) → AreDue (tables S.Store conn.old)
-        → OnOk result (Closes (tables S.Store conn.old) (tables S.Store conn.new) pair.now.mate pair.now.number (number_of pair.now.later.instruction.day) outcome)) }
-    ensures write { Writes S.Store conn.old conn.new result }
-    ensures blame { Soundly S.Store conn.old conn.new (StandAlready (tables S.Store conn.old) pair.now.mate pair.now.number → FailsForCause S.Store conn.old conn.new result) }
-{
-    stand_both(conn, pair.mate, pair.number, state_then(outcome))?;
-    free(conn, pair.later.instruction.day, pair.number, outcome)
 }
 
 /// Tries a matched pair that was found: settles it, and moves its quantity between the accounts and its cash between the
@@ -229,26 +184,23 @@ fn settle_found<S: Alter>(conn: &mut Connection<S>, pair: &KnownPair) -> Result<
 {
     in_order(pair.mate, pair.number)?;
     let outcome = move_both(conn, pair)?;
-    close(conn, pair, outcome)?;
+    stand_both(conn, pair.mate, pair.number, state_then(outcome))?;
     release(conn)?;
     Ok(outcome)
 }
 
-/// Tries the matched pair of a number, due by a day, as `settle_found` does.
+/// Tries the matched pair of a number as `settle_found` does.
 pub fn settle_pair<S: Alter>(
     conn: &mut Connection<S>,
-    facts: &mut Facts,
     alloc: Global,
     number: u64,
-    day: Day,
 ) -> Result<Outcome, Error>
-    ensures changed { Soundly S.Store conn.old conn.new (IsDesk (tables S.Store conn.old) → AreFactsOf facts.old (content_in (tables S.Store conn.old)).register → CanSettle (content_in (tables S.Store conn.old)) number (number_of day)
+    ensures changed { Soundly S.Store conn.old conn.new (IsDesk (tables S.Store conn.old) → (day : ℕ) → CanSettle (content_in (tables S.Store conn.old)) number day
         → (state S.Store conn.old).in_transaction ≡ true → (state S.Store conn.old).marks ≡ [] → IfOk result (λ outcome. IsDesk (tables S.Store conn.new) × TriesPair (content_in (tables S.Store conn.old)) number outcome (content_in (tables S.Store conn.new)))) }
-    ensures noted { Soundly S.Store conn.old conn.new (IsDesk (tables S.Store conn.old) → AreFactsOf facts.old (content_in (tables S.Store conn.old)).register → OnOk result (AreFactsOf facts.new (content_in (tables S.Store conn.old)).register)) }
     ensures trial { IsTrial result (state S.Store conn.old) (state S.Store conn.new) (Stays (state S.Store conn.old) (state S.Store conn.new)) }
-    ensures blame { Soundly S.Store conn.old conn.new (IsDesk (tables S.Store conn.old) → AreFactsOf facts.old (content_in (tables S.Store conn.old)).register → CanSettle (content_in (tables S.Store conn.old)) number (number_of day) → (state S.Store conn.old).in_transaction ≡ true → (state S.Store conn.old).marks ≡ [] → FailsForCause S.Store conn.old conn.new result) }
+    ensures blame { Soundly S.Store conn.old conn.new (IsDesk (tables S.Store conn.old) → (day : ℕ) → CanSettle (content_in (tables S.Store conn.old)) number day → (state S.Store conn.old).in_transaction ≡ true → (state S.Store conn.old).marks ≡ [] → FailsForCause S.Store conn.old conn.new result) }
 {
-    let pair = pair_at(conn, facts, alloc, number)?;
+    let pair = pair_at(conn, alloc, number)?;
     settle_found(conn, &pair)
 }
 

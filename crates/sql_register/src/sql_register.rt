@@ -1,5 +1,5 @@
 //! A register that keeps its content in SQL tables.
-use crate::fault::Course;
+use desk_register::Stage;
 use sqlite::{Alter, Connection};
 use std::marker::Model;
 
@@ -8,21 +8,20 @@ use std::marker::Model;
 #[derive(Drop)]
 pub struct SqlRegister<S: Alter> {
     pub(crate) conn: Connection<S>,
-    pub(crate) course: Course,
+    pub(crate) stage: Stage,
     /// At most `MOST_ENTRIES`
     pub(crate) limit: u64,
 }
 
 impl<S: Alter> Model for SqlRegister<S> {
     ghost use Rattle.sql_register.specs.Kept.{Kept, kept_code, IsBounded, IsKept};
-    ghost use Rattle.sql_register.specs.Known.{IsKnown};
     ghost use Rattle.sqlite.specs.Held.{state};
 
     ghost Value = { Kept S };
 
     ghost coded = { kept_code S.code };
 
-    ghost view = { λ r. record { connection = r.conn; stage = r.course.stage; room = r.limit } };
+    ghost view = { λ r. record { connection = r.conn; stage = r.stage; room = r.limit } };
 
-    ghost invariant = { λ r. IsKept (state S.Store r.conn) r.course.stage × IsBounded (state S.Store r.conn) r.limit × IsKnown (state S.Store r.conn) r.course.stage r.course.known };
+    ghost invariant = { λ r. IsKept (state S.Store r.conn) r.stage × IsBounded (state S.Store r.conn) r.limit };
 }

@@ -1,7 +1,8 @@
 pub mod CauseLemmas
-pub mod CountLemmas
 pub mod InsertLemmas
+pub mod LookedLemmas
 pub mod MessageLemmas
 pub mod RowLemmas
 pub mod TableLemmas
 pub mod TextLemmas
+pub mod WalkLemmas

@@ -1,5 +1,5 @@
 -- The table of what was sent: a list, in order of number.
-use Rattle.std.specs.Prelude.{◌≡◌, ◌+◌, ◌<◌, ◌^◌, ℕ, pos, List, [], ◌∷◌, ◌++◌, length, filter, bytes_eq, Option, None, Some, unwrap_or}
+use Rattle.std.specs.Prelude.{◌≡◌, ◌+◌, ◌<◌, ◌^◌, ℕ, pos, List, [], ◌∷◌, ◌++◌, length, filter, drop, bytes_eq, Option, None, Some, unwrap_or}
 use Rattle.std.specs.List.{AllByRecursion}
 use Rattle.std.specs.Int.{w64, cast_signed}
 use Rattle.sqlite.specs.Order.{Row}
@@ -7,6 +7,7 @@ use Rattle.sqlite.specs.declared.types.Value.TheVariants.{Null, Int, Text as Wor
 use Rattle.sqlite.specs.Effect.{Database}
 use Rattle.desk_codes.specs.Bic.{IsBic}
 use Rattle.desk_rules.specs.declared.answers.reply.Sent.{Sent}
+use Rattle.desk_rules.specs.Questions.{sent_at}
 use Rattle.sql_tables.specs.Ends.{SparesOthers}
 use Rattle.sql_tables.specs.Rows.{number_rows}
 
@@ -14,19 +15,18 @@ use Rattle.sql_tables.specs.Rows.{number_rows}
 abbrev pub sent_to : List Sent → List ℕ → List Sent
 sent_to messages bic = filter (λ message. bytes_eq message.bic bic) messages
 
--- a message as it is stored, with its number and its place among what was sent to its participant
-abbrev pub stored : ℕ → ℕ → Sent → Row
-stored number place message =
-    Int (pos number) ∷ Null ∷ Words message.bic ∷ Int (pos place) ∷ Int (pos message.mt) ∷ Int (cast_signed w64 message.about) ∷ Words message.text ∷ []
+-- a message as it is stored, with its number
+abbrev pub stored : ℕ → Sent → Row
+stored number message = Int (pos number) ∷ Null ∷ Words message.bic ∷ Int (pos message.mt) ∷ Int (cast_signed w64 message.about) ∷ Words message.text ∷ []
 
--- the rows of messages that were sent after these
-abbrev pub rows_after : List Sent → List Sent → List Row
-rows_after before [] = []
-rows_after before (message ∷ more) = stored (length before + 1) (length (sent_to before message.bic) + 1) message ∷ rows_after (before ++ message ∷ []) more
+-- the rows of messages, numbered from here on
+abbrev pub rows_from : ℕ → List Sent → List Row
+rows_from number [] = []
+rows_from number (message ∷ more) = stored number message ∷ rows_from (number + 1) more
 
 -- the table is this list
 pub record AreSent (db : Database) (messages : List Sent) : Type 0 where
-  pub rows : db.trees 11 ≡ rows_after [] messages
+  pub rows : db.trees 9 ≡ rows_from 1 messages
   pub few : length messages < 2 ^ 63
   pub fit : AllByRecursion (λ message. message.about < 2 ^ 64) messages
 
@@ -40,7 +40,7 @@ pub record IsSendable (message : Sent) : Type 0 where
 -- the message is added, and no other table has changed
 pub record Adds (old new : Database) (messages : List Sent) (message : Sent) : Type 0 where
   pub sent : AreSent new (messages ++ message ∷ [])
-  pub others : SparesOthers 11 13 old new
+  pub others : SparesOthers 9 10 old new
 
 -- ---- what a query shows
 
@@ -58,3 +58,20 @@ pub record IsLast (rows : List Row) (last : ℕ) : Type 0 where
   pub found : Option ℕ
   pub shown : rows ≡ number_rows found
   pub is : unwrap_or found 0 ≡ last
+
+-- ---- the messages to one participant, one after the other
+
+-- what was sent to a participant behind so many messages
+abbrev pub left_to : List Sent → List ℕ → ℕ → List Sent
+left_to messages bic after = sent_to (drop after messages) bic
+
+-- the number of the first of these; there is none where they are none
+abbrev pub IsNext : List Sent → List ℕ → ℕ → Option ℕ → Type 0
+IsNext messages bic after None = left_to messages bic after ≡ []
+IsNext messages bic after (Some number) = (message : Sent) × (sent_at messages number ≡ Some message) × (left_to messages bic after ≡ message ∷ left_to messages bic number)
+
+-- the rows of a query for this number
+pub record ShowsNext (messages : List Sent) (bic : List ℕ) (after : ℕ) (rows : List Row) : Type 0 where
+  pub found : Option ℕ
+  pub shown : rows ≡ number_rows found
+  pub is : IsNext messages bic after found

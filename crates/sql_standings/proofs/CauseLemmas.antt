@@ -1,4 +1,4 @@
--- What an edit has to keep, whichever of the three tables it is of.
+-- What an edit has to keep.
 use Rattle.std.proofs.Common.{◌≡◌, ℤ, [], ◌∷◌, List, inl, inr, false, refl, subst}
 use Rattle.std.specs.List.{list_any}
 use Rattle.std.specs.Ordering.{is_eq}

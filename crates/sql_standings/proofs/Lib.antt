@@ -1,16 +1,6 @@
 pub mod CauseLemmas
-pub mod DueCalls
-pub mod DueCauses
-pub mod DueLemmas
-pub mod FirstLemmas
-pub mod KeyLemmas
 pub mod MeaningLemmas
 pub mod NextLemmas
 pub mod StandingCalls
 pub mod StandingCauses
 pub mod StandingLemmas
-pub mod UnmatchedCauses
-pub mod UnmatchedEffects
-pub mod UnmatchedLaws
-pub mod UnmatchedMeanings
-pub mod UnmatchedRows

@@ -1,11 +1,11 @@
 -- What the texts mean.
-use Rattle.std.proofs.Common.{◌≡◌, ℕ, pos, List, [], ◌∷◌, ℤ, true, codes, refl}
+use Rattle.std.proofs.Common.{◌≡◌, ℕ, pos, List, [], ◌∷◌, true, codes, refl}
 use Rattle.sqlite.specs.declared.types.Value.TheVariants.{Null, Int}
 use Rattle.sqlite.specs.Term.{Term, lit, col, op2}
 use Rattle.sqlite.specs.Collation.TheVariants.{Binary}
 use Rattle.sqlite_sql.specs.declared.ops.BinaryOp.TheVariants.{Compare}
-use Rattle.sqlite_sql.specs.declared.ops.CompareOp.TheVariants.{Gt, Lt}
-use Rattle.sqlite.specs.Command.TheVariants.{Select, Insert, Update, Delete}
+use Rattle.sqlite_sql.specs.declared.ops.CompareOp.TheVariants.{Eq, Gt}
+use Rattle.sqlite.specs.Command.TheVariants.{Select, Insert, Update}
 use Rattle.sqlite.specs.Source.TheVariants.{Values}
 use Rattle.sqlite.specs.Listing.{understood}
 use Rattle.sqlite_typing.specs.Types.{accepts_program}
@@ -124,64 +124,31 @@ ask_whole = record { plain = (refl, refl); whole = refl; width_is = refl }
 pub ask_typed : (n : ℕ) → accepts_program desk_schema [] (plain 8 (by_number ∷ []) ask_shown) (Int (pos n) ∷ []) ≡ true
 ask_typed n = refl
 
--- ---- which places are due
-
-abbrev pub note_text : List ℕ
-note_text = codes "INSERT INTO due (place) VALUES (?1)"
-
-abbrev pub forget_text : List ℕ
-forget_text = codes "DELETE FROM due WHERE place = ?1"
+-- ---- what waits to be settled
 
 abbrev pub next_text : List ℕ
-next_text = codes "SELECT place FROM due WHERE place > ?1 AND place < ?2 ORDER BY place LIMIT 1"
+next_text = codes "SELECT number FROM state WHERE state = 2 AND number > ?1 ORDER BY number LIMIT 1"
+
+abbrev pub matched : Term
+matched = op2 (Compare Eq Binary) (col 1 3) (lit (Int (pos 2)))
 
 abbrev pub above : Term
 above = op2 (Compare Gt Binary) (col 1 0) (col 0 0)
 
-abbrev pub below : Term
-below = op2 (Compare Lt Binary) (col 1 0) (col 0 1)
-
-abbrev pub note_terms : List Term
-note_terms = col 0 0 ∷ lit Null ∷ []
-
-pub notes : IsEdit note_text
-unfolding understood everything
-notes = record { changes = refl; plain = (refl, refl) }
-
-pub note_is : command_of (understood desk_schema note_text) ≡ Insert 6 (Values note_terms 2)
-unfolding understood everything
-note_is = refl
-
-pub note_whole : IsWhole note_text 1
-unfolding understood everything
-note_whole = record { plain = (refl, refl); whole = refl; width_is = refl }
-
-pub forgets : IsEdit forget_text
-unfolding understood everything
-forgets = record { changes = refl; plain = (refl, refl) }
-
-pub forget_is : command_of (understood desk_schema forget_text) ≡ Delete 6 (record { lets = []; body = plain 10 (by_number ∷ []) (col 1 0 ∷ []) })
-unfolding understood everything
-forget_is = refl
-
-pub forget_whole : IsWhole forget_text 1
-unfolding understood everything
-forget_whole = record { plain = (refl, refl); whole = refl; width_is = refl }
-
-pub forget_typed : (n : ℕ) → accepts_program desk_schema [] (plain 10 (by_number ∷ []) (col 1 0 ∷ [])) (Int (pos n) ∷ []) ≡ true
-forget_typed n = refl
+abbrev pub next_tests : List Term
+next_tests = matched ∷ above ∷ []
 
 pub finds_next : IsQuery next_text
 unfolding understood everything
 finds_next = record { selects = refl; plain = (refl, refl); unlisted = refl }
 
-pub next_is : command_of (understood desk_schema next_text) ≡ Select (record { lets = []; body = first_of 10 (above ∷ below ∷ []) (col 1 0 ∷ []) (col 1 0) rising }) (codes "place" ∷ [])
+pub next_is : command_of (understood desk_schema next_text) ≡ Select (record { lets = []; body = first_of 8 next_tests (col 1 0 ∷ []) (col 1 0) rising }) (codes "number" ∷ [])
 unfolding understood everything
 next_is = refl
 
-pub next_whole : IsWhole next_text 2
+pub next_whole : IsWhole next_text 1
 unfolding understood everything
 next_whole = record { plain = (refl, refl); whole = refl; width_is = refl }
 
-pub next_typed : (floor : ℤ) (end : ℕ) → accepts_program desk_schema [] (first_of 10 (above ∷ below ∷ []) (col 1 0 ∷ []) (col 1 0) rising) (Int floor ∷ Int (pos end) ∷ []) ≡ true
-next_typed floor end = refl
+pub next_typed : (after : ℕ) → accepts_program desk_schema [] (first_of 8 next_tests (col 1 0 ∷ []) (col 1 0) rising) (Int (pos after) ∷ []) ≡ true
+next_typed after = refl

@@ -9,8 +9,9 @@ use Rattle.desk_rules.specs.declared.history.standing.State.TheVariants.{NoInstr
 use Rattle.desk_rules.specs.declared.history.standing.Standing.{Standing}
 use Rattle.desk_register.specs.Changes.{standing_at}
 use Rattle.sql_tables.specs.Schema.{desk_schema}
-use Rattle.sql_standings.specs.Standings.{fresh_standing, mate_written, standing_in, state_written, AreReadable, AreStandings, IsStandingShown, StandingsChanged}
-use Rattle.sql_standings.proofs.MeaningLemmas.{read_text, add_text, stand_text, stands, stand_is, stand_shown, state_text, changes_state, state_is, state_shown, ask_text, asks, ask_is, ask_shown}
+use Rattle.sql_standings.specs.Standings.{fresh_standing, mate_written, standing_in, state_written, AreReadable, AreStandings, IsNextShown, IsStandingShown, StandingsChanged}
+use Rattle.sql_standings.proofs.MeaningLemmas.{read_text, add_text, stand_text, stands, stand_is, stand_shown, state_text, changes_state, state_is, state_shown, ask_text, asks, ask_is, ask_shown, next_text}
+use Rattle.sql_standings.proofs.NextLemmas.{shows_next}
 use Rattle.sql_standings.proofs.StandingLemmas.{shows_standing, shows_readable, adds_standing, changes_standing, counts_standing, Changes}
 
 -- ---- what the statements change of a row
@@ -34,6 +35,10 @@ module _ (old new : State) (n : ℕ) (has : old.now.schema ≡ desk_schema) (wer
   pub read : (r : Result (Vec Row Global) Error) → IfOk r (λ rows. Shown read_text (Int (pos n) ∷ []) old new rows.items) → IfOk r (λ rows. AreReadable rows.items)
   read (Ok rows) h = shows_readable old new n rows.items has were h
   read (Err e) h = tt
+
+  pub next_shown : (r : Result (Vec Row Global) Error) → IfOk r (λ rows. Shown next_text (Int (pos n) ∷ []) old new rows.items) → IfOk r (λ rows. IsNextShown old.now n rows.items)
+  next_shown (Ok rows) h = shows_next old new n rows.items has were h
+  next_shown (Err e) h = tt
 
   module _ (small : n < 2 ^ 63) where
     pub added : (r : Result ℕ Error) → Executes add_text (Int (pos n) ∷ []) old new r → OnOk r (StandingsChanged old.now new.now (standing_at (standing_in old.now) n fresh_standing))

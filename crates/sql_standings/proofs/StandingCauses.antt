@@ -29,7 +29,7 @@ use Rattle.sql_tables.proofs.BlameLemmas.{IsAllowed, IsWhole, insert_caused, que
 use Rattle.sql_tables.proofs.UniqueLemmas.{unique_state}
 use Rattle.sql_tables.proofs.ValueLemmas.{number_same}
 use Rattle.sql_standings.specs.Standings.{columns_of, standing_among, standing_in, standing_row, standing_written, state_written, written_in, AreReadable, AreStandings, IsStandingRow, Written}
-use Rattle.sql_standings.proofs.MeaningLemmas.{by_number, read_text, reads, read_is, read_whole, read_typed, add_text, add_terms, add_is, add_whole, stand_text, stand_is, stand_whole, stand_typed, state_text, state_is, state_whole, state_typed, ask_text, ask_is, ask_whole, ask_typed}
+use Rattle.sql_standings.proofs.MeaningLemmas.{by_number, read_text, reads, read_is, read_whole, read_typed, add_text, add_terms, add_is, add_whole, stand_text, stand_is, stand_whole, stand_typed, state_text, state_is, state_whole, state_typed, ask_text, ask_is, ask_whole, ask_typed, next_text, finds_next, next_is, next_whole, next_typed}
 use Rattle.sql_standings.proofs.CauseLemmas.{left_free, none_allowed, unique_before}
 use Rattle.sql_standings.proofs.StandingLemmas.{cast_standing, finds, fresh_news, fresh_written, is_at, own_number, own_rowid, said_at, Changes, Finds}
 use Rattle.sql_standings.proofs.StandingCalls.{asks_so, moves_so, stands_so}
@@ -68,6 +68,9 @@ reads_shown rows r none one (inr (w, is, instruction, request)) = one w is instr
 module _ (old new : State) (has : old.now.schema ≡ desk_schema) (open' : IsTrue old.is_open) where
   pub look_caused : (n : ℕ) (r : Result (Vec Row Global) Error) → IfErr r (FailsToQuery read_text (Int (pos n) ∷ []) old new) → IfErr r (ForCause old new)
   look_caused n r h = query_caused old new has open' read_text (Int (pos n) ∷ []) read_whole _ _ read_is reads.unlisted (read_typed n) refl refl r h
+
+  pub next_caused : (after : ℕ) (r : Result (Vec Row Global) Error) → IfErr r (FailsToQuery next_text (Int (pos after) ∷ []) old new) → IfErr r (ForCause old new)
+  next_caused after r h = query_caused old new has open' next_text (Int (pos after) ∷ []) next_whole _ _ next_is finds_next.unlisted (next_typed after) refl refl r h
 
   module _ (obeyed : IsDatabase old.now) (were : AreStandings old.now) (n : ℕ) where
     abbrev db : Trees

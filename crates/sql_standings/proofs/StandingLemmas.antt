@@ -1,11 +1,11 @@
 -- What the statements do to the standings, and what the query shows of them.
-use Rattle.std.proofs.Common.{◌≡◌, ◌≢◌, ◌⊎◌, inl, inr, ℕ, ◌<◌, ◌≤◌, ◌^◌, ◌==◌, pos, List, [], ◌∷◌, length, map, filter, Bool, true, false, cond, not, Ok, refl, sym, ap, subst, ◌∙◌, arith}
-use Rattle.std.specs.List.{AllByRecursion}
+use Rattle.std.proofs.Common.{◌≡◌, ◌≢◌, ◌⊎◌, inl, inr, ℕ, ◌<◌, ◌≤◌, ◌^◌, ◌==◌, pos, List, [], ◌∷◌, length, map, filter, Bool, true, false, cond, not, ◌&&◌, Ok, Some, unwrap_or, refl, sym, ap, subst, ◌∙◌, arith}
+use Rattle.std.specs.List.{AllByRecursion, find}
 use Rattle.std.specs.List.Sorted.{IsPermutation}
 use Rattle.std.specs.Ordering.{is_eq, match_ordering}
 use Rattle.std.specs.declared.cmp.Ordering.{Ordering}
 use Rattle.std.specs.declared.cmp.Ordering.TheVariants.{Less, Equal}
-use Rattle.std.proofs.lemmas.Bool.{cases_Bool, both_ways, eqb-true, ne_eqb, eq-eqb}
+use Rattle.std.proofs.lemmas.Bool.{cases_Bool, and_parts, both_ways, eqb-true, ne_eqb, eq-eqb}
 use Rattle.std.proofs.lemmas.List.{nil_from_length}
 use Rattle.std.proofs.lemmas.List.Sorted.{length_permutation}
 use Rattle.sqlite.specs.Order.{Row, value_cmp}
@@ -27,17 +27,38 @@ use Rattle.sqlite.specs.Rows.{stamped}
 use Rattle.sqlite.specs.Listing.{understood}
 use Rattle.sqlite.specs.State.{State, Executes, Shown}
 use Rattle.sqlite.proofs.Callers.{IsPlain, command_of, reads_as, one_permutation}
+use Rattle.desk_rules.specs.declared.history.standing.State.{State as Stand}
 use Rattle.desk_rules.specs.declared.history.standing.State.TheVariants.{NoInstruction}
 use Rattle.desk_rules.specs.declared.history.standing.Standing.{Standing}
 use Rattle.desk_rules.specs.Standing.{no_standing}
 use Rattle.desk_register.specs.Changes.{standing_at}
 use Rattle.sql_tables.specs.Schema.{desk_schema, state_table}
-use Rattle.sql_standings.specs.Standings.{columns_of, fresh_standing, number_of_row, standing_among, standing_in, standing_row, standing_written, state_written, written_in, AreReadable, AreStandings, IsStandingRow, IsStandingShown, StandingsChanged, Written}
+use Rattle.sql_standings.specs.Standings.{columns_of, fresh_standing, number_of_row, reason_code, standing_among, standing_in, standing_row, standing_written, state_code, state_written, states, written_in, AreReadable, AreStandings, IsStandingRow, IsStandingShown, StandingsChanged, Written}
 use Rattle.sql_standings.proofs.MeaningLemmas.{by_number, read_text, reads, read_is, read_shown, add_text, adds, add_is, add_terms}
-use Rattle.sql_tables.specs.Queries.{plain, passes_all}
-use Rattle.sql_tables.proofs.QueryLemmas.{plain_rows, same_found}
+use Rattle.sql_tables.specs.Queries.{plain, passes_all, Among}
+use Rattle.sql_tables.proofs.QueryLemmas.{among_filter, filter_among, none_among, only_one, plain_rows, same_found}
 use Rattle.sql_tables.proofs.EditLemmas.{updates, inserts, spares, IsEdited}
 use Rattle.sql_tables.proofs.ValueLemmas.{three_ways, number_less, number_equal, number_greater, number_same, equal_test, and_true, cast_int, cast_null}
+
+-- ---- a state and its codes
+
+abbrev is_written : ℕ → ℕ → Stand → Bool
+is_written code reason s = (state_code s == code) && (reason_code s == reason)
+
+codes_found : (code reason : ℕ) (all : List Stand) → unwrap_or (find (is_written code reason) all) NoInstruction ≢ NoInstruction
+    → (state_code (unwrap_or (find (is_written code reason) all) NoInstruction) ≡ code) × (reason_code (unwrap_or (find (is_written code reason) all) NoInstruction) ≡ reason)
+codes_found code reason [] some = absurd (some refl)
+codes_found code reason (s ∷ all) some =
+    let read = λ (b : Bool). unwrap_or (cond b (Some s) (find (is_written code reason) all)) NoInstruction in
+    elim (cases_Bool (is_written code reason s)) [
+      | inl here ↦ (let parts = and_parts (state_code s == code) (reason_code s == reason) here in
+          (ap (λ b. state_code (read b)) here ∙ eqb-true (state_code s) code parts.0, ap (λ b. reason_code (read b)) here ∙ eqb-true (reason_code s) reason parts.1))
+      | inr apart ↦ subst (λ x. (state_code x ≡ code) × (reason_code x ≡ reason)) (sym (ap read apart)) (codes_found code reason all (λ none. some (ap read apart ∙ none)))
+    ]
+
+-- the codes of an instruction's state are those that it was read by
+pub codes_back : (code reason : ℕ) → state_written code reason ≢ NoInstruction → (state_code (state_written code reason) ≡ code) × (reason_code (state_written code reason) ≡ reason)
+codes_back code reason some = codes_found code reason states some
 
 -- ---- one row
 
@@ -97,6 +118,38 @@ once n (r ∷ rs) rising formed = elim (cases_Bool (is_at n r)) [
   | inr apart ↦ (let e : filter (is_at n) (r ∷ rs) ≡ filter (is_at n) rs = ap (λ b. cond b (r ∷ filter (is_at n) rs) (filter (is_at n) rs)) apart in
       elim (once n rs rising.1 formed.1) [ inl none ↦ inl (e ∙ none) | inr one ↦ inr (one.0, e ∙ one.1) ])
 ]
+
+-- a row says where the instruction of its number stands
+pub row_says : (rows : List Row) → IsTable rows → AllByRecursion IsStandingRow rows → (r : Row) → Among rows r → (it : IsStandingRow r) → standing_among rows it.number ≡ standing_written it.written
+row_says rows rising formed r there it =
+    let n = it.number in
+    let found = filter_among (is_at n) rows r there (eq-eqb (number_of_row r) n (own_number r it)) in
+    elim (once n rows rising formed) [
+      | inl none ↦ absurd (none_among (filter (is_at n) rows) r none found)
+      | inr one ↦ (let first = found_one n rows one.0 [] formed one.1 in
+          first.2 ∙ sym (said_at one.0 first.0) ∙ ap (λ row. standing_written (written_in row)) (sym (only_one (filter (is_at n) rows) one.0 r one.1 found)) ∙ said_at r it)
+    ]
+
+-- a number that stands somewhere has a row
+pub row_of : (n : ℕ) (rows : List Row) → IsTable rows → AllByRecursion IsStandingRow rows → (standing_among rows n).state ≢ NoInstruction
+    → (r : Row) × (it : IsStandingRow r) × Among rows r × (it.number ≡ n) × (standing_among rows n ≡ standing_written it.written)
+row_of n rows rising formed some = elim (once n rows rising formed) [
+  | inl none ↦ absurd (some (ap (λ (s : Standing). s.state) (found_none n rows none)))
+  | inr one ↦ (let first = found_one n rows one.0 [] formed one.1 in
+      let there = among_filter (is_at n) rows one.0 (subst (λ xs. Among xs one.0) (sym one.1) (inl refl)) in
+      (one.0, first.0, there.0, first.1, first.2))
+]
+
+-- a number with no instruction has no row
+pub nowhere : (n : ℕ) (rows : List Row) → AllByRecursion IsStandingRow rows → (standing_among rows n).state ≡ NoInstruction → standing_among rows n ≡ no_standing
+nowhere n [] formed none = refl
+nowhere n (r ∷ rs) formed none =
+    let it = formed.0 in
+    let said = standing_written (written_in r) in
+    elim (cases_Bool (is_at n r)) [
+      | inl here ↦ absurd (it.instruction (ap (λ (s : Standing). s.state) (sym (said_at r it)) ∙ sym (ap (λ b. (cond b said (standing_among rs n)).state) here) ∙ none))
+      | inr apart ↦ ap (λ b. cond b said (standing_among rs n)) apart ∙ nowhere n rs formed.1 (sym (ap (λ b. (cond b said (standing_among rs n)).state) apart) ∙ none)
+    ]
 
 -- ---- a row is put in, or taken out
 

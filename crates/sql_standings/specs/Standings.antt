@@ -1,17 +1,19 @@
 -- The table of where instructions stand: what its rows say, and what is recorded in it.
-use Rattle.std.specs.Prelude.{◌≡◌, ◌≢◌, ℕ, ◌<◌, ◌≤◌, ◌^◌, ◌==◌, ◌&&◌, ◌⊎◌, pos, false, if◌then◌else◌, List, [], ◌∷◌, Option, Some, None, unwrap_or}
+use Rattle.std.specs.Prelude.{◌≡◌, ◌≢◌, ℕ, ◌<◌, ◌≤◌, ◌^◌, ◌==◌, ◌&&◌, ◌⊎◌, pos, false, if◌then◌else◌, List, [], ◌∷◌, Option, Some, None, IfSome, unwrap_or}
 use Rattle.std.specs.List.{AllByRecursion, find}
 use Rattle.sqlite.specs.declared.types.Value.{Value}
 use Rattle.sqlite.specs.declared.types.Value.TheVariants.{Null, Int}
 use Rattle.sqlite.specs.Order.{Row, column}
 use Rattle.sqlite.specs.Tree.{IsTable, rowid}
 use Rattle.sqlite.specs.Effect.{Database}
+use Rattle.desk_msg.specs.declared.writing.status.Reason.{Reason}
 use Rattle.desk_msg.specs.declared.writing.status.Reason.TheVariants.{Future, Lack, Money}
 use Rattle.desk_rules.specs.declared.history.standing.State.{State}
 use Rattle.desk_rules.specs.declared.history.standing.State.TheVariants.{NoInstruction, Unmatched, Matched, Cancelled, Settled}
 use Rattle.desk_rules.specs.declared.history.standing.Standing.{Standing}
 use Rattle.desk_rules.specs.Standing.{no_standing}
 use Rattle.sql_tables.specs.Ends.{SparesOthers}
+use Rattle.sql_tables.specs.Rows.{number_rows}
 
 -- ---- what is written of a standing
 
@@ -114,3 +116,23 @@ pub record StandingsChanged (old new : Database) (standings : ℕ → Standing) 
   pub kept : AreStandings new
   pub standings_are : standing_in new ≡ standings
   pub others : SparesOthers 8 9 old new
+
+-- ---- what waits to be settled
+
+-- the instruction of this number is matched, and not settled, and the number is above one
+pub record IsMatchedAbove (db : Database) (after n : ℕ) : Type 0 where
+  pub reason : Reason
+  pub matched : (standing_in db n).state ≡ Matched reason
+  pub above : after < n
+
+-- the least such number, or there is none
+abbrev pub IsNextMatched : Database → ℕ → Option ℕ → Type 0
+IsNextMatched db after None = (n : ℕ) → IsMatchedAbove db after n → ⊥
+IsNextMatched db after (Some n) = IsMatchedAbove db after n × ((m : ℕ) → IsMatchedAbove db after m → n ≤ m)
+
+-- the rows show it, or there is none
+pub record IsNextShown (db : Database) (after : ℕ) (rows : List Row) : Type 0 where
+  pub found : Option ℕ
+  pub shown : rows ≡ number_rows found
+  pub next : IsNextMatched db after found
+  pub small : IfSome found (λ n. n < 2 ^ 63)

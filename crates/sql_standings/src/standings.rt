@@ -1,14 +1,15 @@
 //! Where each instruction stands.
 
-ghost use Rattle.std.specs.Prelude.{◌≡◌, ◌≢◌, ◌<◌, ◌≤◌, ◌^◌, true, Some, IfOk, OnOk};
+ghost use Rattle.std.specs.Prelude.{◌≡◌, ◌≢◌, ◌<◌, ◌≤◌, ◌^◌, true, Some, IfOk, IfSome, OnOk};
 ghost use Rattle.sqlite.specs.Held.{state};
 ghost use Rattle.desk_rules.specs.Standing.{no_standing};
 ghost use Rattle.desk_register.specs.Changes.{standing_at};
-ghost use Rattle.sql_standings.specs.Standings.{fresh_standing, mate_written, standing_in, state_written, AreReadable, AreStandings, IsStandingShown, StandingsChanged};
+ghost use Rattle.sql_standings.specs.Standings.{fresh_standing, mate_written, standing_in, state_written, AreReadable, AreStandings, IsNextMatched, IsNextShown, IsStandingShown, StandingsChanged};
 ghost use Rattle.sql_tables.specs.Calls.{FailsForCause, Looks, Soundly, Writes, tables};
 
 use crate::states::{no_standing, reason_code, standing_shown, state_code};
 use desk_rules::{Standing, State};
+use sql_tables::rows::only_number;
 use sql_tables::statement::{execute, query};
 use sql_tables::values::{integer, one_row};
 use sqlite::{Alter, Connection, Error, Row};
@@ -43,6 +44,32 @@ pub fn standing<S: Alter>(conn: &mut Connection<S>, number: u64) -> Result<Stand
     }
     let rows = rows_of(conn, number)?;
     standing_shown(rows.as_slice())
+}
+
+/// The row with the least number above one whose instruction is matched.
+fn first_row<S: Alter>(conn: &mut Connection<S>, after: u64) -> Result<Vec<Row>, Error>
+    requires { after < 2 ^ 63 }
+    ensures shown { Soundly S.Store conn.old conn.new (AreStandings (tables S.Store conn.old) → IfOk result (λ rows. IsNextShown (tables S.Store conn.old) after rows.items)) }
+    ensures look { Looks S.Store conn.old conn.new result }
+    ensures blame { Soundly S.Store conn.old conn.new (FailsForCause S.Store conn.old conn.new result) }
+{
+    query(
+        conn,
+        "SELECT number FROM state WHERE state = 2 AND number > ?1 ORDER BY number LIMIT 1",
+        &[integer(after)],
+    )
+}
+
+/// The least number above one whose instruction is matched and waits to be settled; None where there is none.
+pub fn next_matched<S: Alter>(conn: &mut Connection<S>, after: u64) -> Result<Option<u64>, Error>
+    requires { after < 2 ^ 63 }
+    ensures value { Soundly S.Store conn.old conn.new (AreStandings (tables S.Store conn.old) → IfOk result (λ r. IsNextMatched (tables S.Store conn.old) after r)) }
+    ensures small { Soundly S.Store conn.old conn.new (AreStandings (tables S.Store conn.old) → IfOk result (λ r. IfSome r (λ n. n < 2 ^ 63))) }
+    ensures look { Looks S.Store conn.old conn.new result }
+    ensures blame { Soundly S.Store conn.old conn.new (AreStandings (tables S.Store conn.old) → FailsForCause S.Store conn.old conn.new result) }
+{
+    let rows = first_row(conn, after)?;
+    only_number(&rows)
 }
 
 /// A row for a number, and how many rows there are more.

@@ -128,31 +128,7 @@ every_row among db (row ∷ rows) = (refl, every_row among db rows)
 all_refer : (among : Among) (db : Trees) → Refers among desk_schema db
 all_refer among db = (
   every_row among db (db 0),
-  (
-    every_row among db (db 2),
-    (
-      every_row among db (db 4),
-      (
-        every_row among db (db 6),
-        (
-          every_row among db (db 8),
-          (
-            every_row among db (db 9),
-            (
-              every_row among db (db 10),
-              (
-                every_row among db (db 11),
-                (
-                  every_row among db (db 13),
-                  tt,
-                ),
-              ),
-            ),
-          ),
-        ),
-      ),
-    ),
-  ),
+  (every_row among db (db 2), (every_row among db (db 4), (every_row among db (db 6), (every_row among db (db 8), (every_row among db (db 9), (every_row among db (db 10), tt)))))),
 )
 
 -- ---- one statement

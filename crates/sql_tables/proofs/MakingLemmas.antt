@@ -1,5 +1,5 @@
--- What a statement does that makes a table or an index.
-use Rattle.std.proofs.Common.{◌≡◌, inl, inr, ℕ, List, [], ◌∷◌, ◌++◌, false, if◌then◌else◌, None, Some, Ok, Err, Result, OnErr, OnOk, slice_get, sym, ap, subst, ◌∙◌}
+-- What a statement does that makes a table.
+use Rattle.std.proofs.Common.{◌≡◌, inl, inr, ℕ, List, [], ◌∷◌, ◌++◌, false, if◌then◌else◌, None, Ok, Err, Result, OnErr, OnOk, sym, ap, subst, ◌∙◌}
 use Rattle.std.specs.List.{AllByRecursion}
 use Rattle.sqlite.specs.Table.{Table}
 use Rattle.sqlite.specs.Schema.{Schema}
@@ -7,13 +7,13 @@ use Rattle.sqlite.specs.Tree.{Trees}
 use Rattle.sqlite.specs.Effect.{Database}
 use Rattle.sqlite.specs.declared.error.Error.{Error}
 use Rattle.sqlite.specs.Command.{Command}
-use Rattle.sqlite.specs.Command.TheVariants.{CreateTable, CreateIndex}
-use Rattle.sqlite.specs.Does.{Tally, AtPlace, Defines, MakesIndex as Indexes, lacks_sequence}
-use Rattle.sqlite.specs.Change.{created, indexed, next_tree, KeepsRows}
+use Rattle.sqlite.specs.Command.TheVariants.{CreateTable}
+use Rattle.sqlite.specs.Does.{Tally, lacks_sequence}
+use Rattle.sqlite.specs.Change.{created, next_tree, KeepsRows}
 use Rattle.sqlite.specs.Listing.{understood}
-use Rattle.sqlite.specs.State.{State, mode_of, Writes, Executes}
+use Rattle.sqlite.specs.State.{State, Writes, Executes}
 use Rattle.sqlite.proofs.Callers.{statement_of, runs_as}
-use Rattle.sql_tables.specs.Making.{Makes, MakesTable, MakesIndex, IsEmpty, HasMade, KeepsCommitted}
+use Rattle.sql_tables.specs.Making.{Makes, MakesTable, IsEmpty, HasMade, KeepsCommitted}
 use Rattle.sql_tables.proofs.EndLemmas.{execute_fell}
 use Rattle.sql_tables.proofs.StatementLemmas.{went, same_value, same_command}
 
@@ -53,27 +53,8 @@ module _ (old new : State) (text : List ℕ) (before after : Schema) (makes : Ma
       subst (λ (s : Schema). AllByRecursion (λ table. new.now.trees table.tree ≡ []) s.tables) (sym it.is) (subst (λ (d : Database). AllByRecursion (λ table. d.trees table.tree ≡ []) (created before it.table).tables) (sym now) more) in
       from_writes old new CreateTable text count after w (record { schema_is = schema_is; empty = empty })
 
-  index_made : MakesIndex text before after → HasMade after old new
-  index_made it =
-      let w = subst (λ t. Writes old new None (CreateIndex it.place) t [] count) whole (runs_as text [] old new before was.schema_is (CreateIndex it.place) (sym (same_command (understood before text)) ∙ it.makes) makes.plain count h) in
-      let found : slice_get old.now.schema.tables it.place ≡ Some it.table = ap (λ (s : Schema). slice_get s.tables it.place) was.schema_is ∙ it.found in
-      let placed : Defines (mode_of old) (Indexes text old.now it.table) (Ok (w.tally, new.now)) = subst (λ x. AtPlace (λ table. Defines (mode_of old) (Indexes text old.now table)) x (Ok (w.tally, new.now))) found w.changed in
-      let first = went placed in
-      let made = first.1 in
-      let now : new.now ≡ first.0 = ap (λ (p : Tally × Database). p.1) (same_value first.2) in
-      let same : made.index ≡ it.index = same_value (sym made.defined ∙ it.defined) in
-      let schema_is : new.now.schema ≡ after = ap (λ (d : Database). d.schema) now ∙ made.is ∙ ap (λ s. indexed s it.table made.index) was.schema_is ∙ ap (indexed before it.table) same ∙ sym it.is in
-      let kept : AllByRecursion (λ table. first.0.trees table.tree ≡ []) before.tables =
-      still_empty before.tables old.now.trees first.0.trees (subst (λ (s : Schema). KeepsRows s.tables old.now.trees first.0.trees) was.schema_is made.rows) was.empty in
-      let empty : AllByRecursion (λ table. new.now.trees table.tree ≡ []) after.tables =
-      subst (λ (s : Schema). AllByRecursion (λ table. new.now.trees table.tree ≡ []) s.tables) (sym it.is) (subst (λ (d : Database). AllByRecursion (λ table. d.trees table.tree ≡ []) before.tables) (sym now) kept) in
-      from_writes old new (CreateIndex it.place) text count after w (record { schema_is = schema_is; empty = empty })
-
 pub has_made : (old new : State) (text : List ℕ) (before after : Schema) → Makes text before after → IsEmpty before old.now → (r : Result ℕ Error) → Executes text [] old new r → OnOk r (HasMade after old new)
-has_made old new text before after makes was (Ok count) h = elim makes.made [
-  | inl table ↦ table_made old new text before after makes was count h table
-  | inr index ↦ index_made old new text before after makes was count h index
-]
+has_made old new text before after makes was (Ok count) h = table_made old new text before after makes was count h makes.made
 has_made old new text before after makes was (Err e) h = tt
 
 pub keeps_committed : (old new : State) (text : List ℕ) (r : Result ℕ Error) → Executes text [] old new r → OnErr r (KeepsCommitted old new)

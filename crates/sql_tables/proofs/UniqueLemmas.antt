@@ -7,7 +7,7 @@ use Rattle.sqlite.specs.Table.{Table}
 use Rattle.sqlite.specs.Tree.{Trees, with_tree}
 use Rattle.sqlite_schema.specs.Rules.{Keeps, passes}
 use Rattle.sqlite_schema.specs.declared.schema.Constraint.TheVariants.{Unique}
-use Rattle.sql_tables.specs.Schema.{desk_schema, balance_table, cash_table, total_table, register_table, state_table, unmatched_table, due_table, sent_table, version_table}
+use Rattle.sql_tables.specs.Schema.{desk_schema, balance_table, cash_table, total_table, register_table, state_table, sent_table, version_table}
 
 -- no two of a table's new rows have the same key
 abbrev pub AreUnique : Table → Trees → List Row → Type 0
@@ -24,20 +24,11 @@ module _ (db : Trees) (rows : List Row) where
   pub unique_register : AreUnique register_table db rows → KeepsUnique register_table db rows
   unique_register mine kept = (kept.0, (kept.1.0, (kept.1.1.0, (mine, kept.1.1.1.1))))
 
-  pub unique_sent : AreUnique sent_table db rows → KeepsUnique sent_table db rows
-  unique_sent mine kept = (kept.0, (kept.1.0, (kept.1.1.0, (kept.1.1.1.0, (kept.1.1.1.1.0, (kept.1.1.1.1.1.0, (kept.1.1.1.1.1.1.0, (mine, kept.1.1.1.1.1.1.1.1))))))))
-
   pub unique_state : KeepsUnique state_table db rows
   unique_state kept = (kept.0, (kept.1.0, (kept.1.1.0, (kept.1.1.1.0, (free_rows (λ row. refl) rows, kept.1.1.1.1.1)))))
 
-  pub unique_unmatched : KeepsUnique unmatched_table db rows
-  unique_unmatched kept = (kept.0, (kept.1.0, (kept.1.1.0, (kept.1.1.1.0, (kept.1.1.1.1.0, (free_rows (λ row. refl) rows, kept.1.1.1.1.1.1))))))
-
-  pub unique_due : KeepsUnique due_table db rows
-  unique_due kept = (kept.0, (kept.1.0, (kept.1.1.0, (kept.1.1.1.0, (kept.1.1.1.1.0, (kept.1.1.1.1.1.0, (free_rows (λ row. refl) rows, kept.1.1.1.1.1.1.1)))))))
+  pub unique_sent : KeepsUnique sent_table db rows
+  unique_sent kept = (kept.0, (kept.1.0, (kept.1.1.0, (kept.1.1.1.0, (kept.1.1.1.1.0, (free_rows (λ row. refl) rows, kept.1.1.1.1.1.1))))))
 
   pub unique_version : KeepsUnique version_table db rows
-  unique_version kept = (
-    kept.0,
-    (kept.1.0, (kept.1.1.0, (kept.1.1.1.0, (kept.1.1.1.1.0, (kept.1.1.1.1.1.0, (kept.1.1.1.1.1.1.0, (kept.1.1.1.1.1.1.1.0, (free_rows (λ row. refl) rows, tt)))))))),
-  )
+  unique_version kept = (kept.0, (kept.1.0, (kept.1.1.0, (kept.1.1.1.0, (kept.1.1.1.1.0, (kept.1.1.1.1.1.0, (free_rows (λ row. refl) rows, tt)))))))

@@ -33,7 +33,7 @@ set_text = codes "INSERT INTO version (number) VALUES (?1)"
 abbrev pub set_terms : List Term
 set_terms = col 0 0 ∷ lit Null ∷ []
 
-pub version_is : command_of (understood desk_schema version_text) ≡ Select (record { lets = []; body = first_of 13 [] (col 1 0 ∷ []) (col 1 0) rising }) (codes "number" ∷ [])
+pub version_is : command_of (understood desk_schema version_text) ≡ Select (record { lets = []; body = first_of 10 [] (col 1 0 ∷ []) (col 1 0) rising }) (codes "number" ∷ [])
 unfolding understood everything
 version_is = refl
 
@@ -41,7 +41,7 @@ pub version_query : IsQuery version_text
 unfolding understood everything
 version_query = record { selects = refl; plain = (refl, refl); unlisted = refl }
 
-pub set_is : command_of (understood desk_schema set_text) ≡ Insert 8 (Values set_terms 2)
+pub set_is : command_of (understood desk_schema set_text) ≡ Insert 6 (Values set_terms 2)
 unfolding understood everything
 set_is = refl
 
@@ -61,24 +61,24 @@ only (Some number) held rows is (inr one) = elim (subst (λ xs. Among xs one.0) 
 pub version_shown : (old new : State) → old.now.schema ≡ desk_schema → (number : Option ℕ) → HasVersion old.now number → (rows : List Row) → Shown version_text [] old new rows → rows ≡ number_rows number
 version_shown old new has number is rows h =
     let answers = reads_as version_text [] old new desk_schema has _ version_is version_query.plain version_query.unlisted rows h in
-    let first = first_row 13 [] (col 1 0 ∷ []) (col 1 0) rising (overlay old.now.trees []) [] rows (answers.answer Null) in
-    only number (old.now.trees 13) rows is (subst (λ xs. IsFirst xs [] (col 1 0 ∷ []) (col 1 0) rising rows) (all_kept (old.now.trees 13)) first)
+    let first = first_row 10 [] (col 1 0 ∷ []) (col 1 0) rising (overlay old.now.trees []) [] rows (answers.answer Null) in
+    only number (old.now.trees 10) rows is (subst (λ xs. IsFirst xs [] (col 1 0 ∷ []) (col 1 0) rising rows) (all_kept (old.now.trees 10)) first)
 
 module _ (old new : State) (has : old.now.schema ≡ desk_schema) where
   version_put : (number count : ℕ) → Executes set_text (Int (pos number) ∷ []) old new (Ok count)
-      → (new.now.trees 13 ≡ put_row (Int (pos number) ∷ Null ∷ []) (old.now.trees 13)) × SparesOthers 13 14 old.now new.now
+      → (new.now.trees 10 ≡ put_row (Int (pos number) ∷ Null ∷ []) (old.now.trees 10)) × SparesOthers 10 11 old.now new.now
   version_put number count h =
       let params : Row = Int (pos number) ∷ [] in
       let db = old.now.trees in
-      let made = inserts old new has set_text params count 8 version_table refl set_edit.plain h set_terms 2 refl set_is in
+      let made = inserts old new has set_text params count 6 version_table refl set_edit.plain h set_terms 2 refl set_is in
       let edit = edit_of db version_table [] Chosen 0 made.0 in
       let news : edit.news ≡ (Int (pos number) ∷ Null ∷ []) ∷ [] = ap (λ all. (edit_of db version_table [] Chosen 0 all).news) made.1 ∙ rw (cast_int (pos number), cast_null) refl in
-      (made.2.rows ∙ ap (put_all (db 13)) news, spares 13 14 old.now new.now edit (omega arith) (omega arith) made.2)
+      (made.2.rows ∙ ap (put_all (db 10)) news, spares 10 11 old.now new.now edit (omega arith) (omega arith) made.2)
 
   pub sets : (number count : ℕ) → HasVersion old.now None → Executes set_text (Int (pos number) ∷ []) old new (Ok count) → SetsVersion old.now new.now number
   sets number count none h =
       let it = version_put number count h in
       record { version = (Null ∷ [], inl refl, it.0 ∙ ap (put_row (Int (pos number) ∷ Null ∷ [])) none); others = it.1 }
 
-pub no_version : (db : Database) → db.trees 13 ≡ [] → HasVersion db None
+pub no_version : (db : Database) → db.trees 10 ≡ [] → HasVersion db None
 no_version db empty = empty

@@ -1,22 +1,21 @@
--- How the tables are made, in a database that has none: one statement for each table, then one for each index beside a key's.
-use Rattle.std.specs.Prelude.{◌≡◌, ◌⊎◌, ℕ, List, [], false, IsTrue, take, slice_get, Ok, Some}
+-- How the tables are made, in a database that has none: one statement for each table, which makes the index of its key with it.
+use Rattle.std.specs.Prelude.{◌≡◌, ℕ, List, [], false, IsTrue, take, Ok}
 use Rattle.std.specs.List.{AllByRecursion}
 use Rattle.sqlite.specs.Table.{Table}
 use Rattle.sqlite.specs.Schema.{Schema}
-use Rattle.sqlite_schema.specs.declared.schema.Index.{Index}
-use Rattle.sqlite_schema.specs.declared.command.Command.TheVariants.{CreateTable, CreateIndex}
+use Rattle.sqlite_schema.specs.declared.command.Command.TheVariants.{CreateTable}
 use Rattle.sqlite.specs.Effect.{Database}
 use Rattle.sqlite.specs.Given.{IsPlain}
 use Rattle.sqlite.specs.Listing.{understood}
 use Rattle.sqlite.specs.State.{State, text_of}
 use Rattle.sqlite.specs.Does.{lacks_sequence}
 use Rattle.sqlite_resolve.specs.declared.compiled.Compiled.{Compiled}
-use Rattle.sqlite.specs.Compile.{table_defined_by, index_defined_by}
-use Rattle.sqlite.specs.Change.{created, indexed}
+use Rattle.sqlite.specs.Compile.{table_defined_by}
+use Rattle.sqlite.specs.Change.{created}
 use Rattle.sql_tables.specs.Schema.{desk_tables, desk_indexes}
 use Rattle.sql_tables.specs.Statements.{command_in}
 
--- the first so many tables and indexes
+-- the first so many tables and indexes of keys
 abbrev pub first_of : ℕ → ℕ → Schema
 first_of tables indexes = record { tables = take tables desk_tables; indexes = take indexes desk_indexes; views = [] }
 
@@ -27,16 +26,6 @@ pub record MakesTable (text : List ℕ) (before after : Schema) : Type 0 where
   pub makes : command_in (understood before text) ≡ CreateTable
   pub is : after ≡ created before table
 
--- the text is the definition of an index of a table, which comes last
-pub record MakesIndex (text : List ℕ) (before after : Schema) : Type 0 where
-  pub place : ℕ
-  pub table : Table
-  pub index : Index
-  pub found : slice_get before.tables place ≡ Some table
-  pub defined : index_defined_by table text ≡ Ok index
-  pub makes : command_in (understood before text) ≡ CreateIndex place
-  pub is : after ≡ indexed before table index
-
 -- compiled against the tables before it, the text is one whole statement that makes what comes next
 pub record Makes (text : List ℕ) (before after : Schema) : Type 0 where
   pub compiled : Compiled
@@ -44,7 +33,7 @@ pub record Makes (text : List ℕ) (before after : Schema) : Type 0 where
   pub whole : text_of text compiled ≡ text
   pub plain : IsPlain (understood before text)
   pub unsequenced : lacks_sequence after ≡ false
-  pub made : MakesTable text before after ⊎ MakesIndex text before after
+  pub made : MakesTable text before after
 
 -- a database has these tables, and no row in any
 pub record IsEmpty (schema : Schema) (db : Database) : Type 0 where

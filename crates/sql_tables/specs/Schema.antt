@@ -1,5 +1,5 @@
--- The tables of the desk, as the statements that make them define them: in this order, then the indexes beside those of keys,
--- and nothing else. All tables come before all such indexes, so that SQLite keeps the order where it writes a database anew.
+-- The tables of the desk, as the statements that make them define them: in this order, and nothing else. There is no index but
+-- those of keys, which SQLite makes with their tables.
 use Rattle.std.specs.Prelude.{true, false, [], ◌∷◌, None, Some, codes, List, ℕ, pos}
 use Rattle.sqlite.specs.Collation.TheVariants.{Binary}
 use Rattle.sqlite.specs.declared.types.Value.TheVariants.{Null, Int}
@@ -116,47 +116,15 @@ state_table = record {
   is_counted = false;
 }
 
-abbrev pub unmatched_table : Table
-unmatched_table = record {
-  name = codes "unmatched";
-  tree = 9;
-  columns = key_column (codes "number") ∷ needed (codes "isin") Text ∷ needed (codes "day") Text ∷ needed (codes "quantity") Integer ∷ needed (codes "sender") Text ∷ needed (codes "counterparty") Text ∷ needed (codes "mt") Integer ∷ needed (codes "unit") Text ∷ needed (codes "currency") Text ∷ needed (codes "amount") Integer ∷ [];
-  key = Some 0;
-  primary = 0 ∷ [];
-  uniques = [];
-  orders = [];
-  checks = [];
-  references = [];
-  computed = [];
-  stamps = unstamped;
-  is_counted = false;
-}
-
-abbrev pub due_table : Table
-due_table = record {
-  name = codes "due";
-  tree = 10;
-  columns = key_column (codes "place") ∷ [];
-  key = Some 0;
-  primary = 0 ∷ [];
-  uniques = [];
-  orders = [];
-  checks = [];
-  references = [];
-  computed = [];
-  stamps = unstamped;
-  is_counted = false;
-}
-
 abbrev pub sent_table : Table
 sent_table = record {
   name = codes "sent";
-  tree = 11;
-  columns = key_column (codes "number") ∷ needed (codes "bic") Text ∷ needed (codes "place") Integer ∷ needed (codes "mt") Integer ∷ needed (codes "about") Integer ∷ needed (codes "text") Text ∷ [];
+  tree = 9;
+  columns = key_column (codes "number") ∷ needed (codes "bic") Text ∷ needed (codes "mt") Integer ∷ needed (codes "about") Integer ∷ needed (codes "text") Text ∷ [];
   key = Some 0;
   primary = 0 ∷ [];
-  uniques = (2 ∷ 3 ∷ []) ∷ [];
-  orders = ascending ∷ [];
+  uniques = [];
+  orders = [];
   checks = [];
   references = [];
   computed = [];
@@ -167,7 +135,7 @@ sent_table = record {
 abbrev pub version_table : Table
 version_table = record {
   name = codes "version";
-  tree = 13;
+  tree = 10;
   columns = key_column (codes "number") ∷ [];
   key = Some 0;
   primary = 0 ∷ [];
@@ -181,18 +149,14 @@ version_table = record {
 }
 
 abbrev pub desk_tables : List Table
-desk_tables = balance_table ∷ cash_table ∷ total_table ∷ register_table ∷ state_table ∷ unmatched_table ∷ due_table ∷ sent_table ∷ version_table ∷ []
+desk_tables = balance_table ∷ cash_table ∷ total_table ∷ register_table ∷ state_table ∷ sent_table ∷ version_table ∷ []
 
 abbrev pub desk_indexes : List Index
 desk_indexes =
     record { name = codes "sqlite_autoindex_balance_1"; tree = 1; table = 0; columns = 1 ∷ 2 ∷ []; order = ascending; is_unique = true } ∷
     record { name = codes "sqlite_autoindex_cash_1"; tree = 3; table = 2; columns = 1 ∷ 2 ∷ []; order = ascending; is_unique = true } ∷
     record { name = codes "sqlite_autoindex_total_1"; tree = 5; table = 4; columns = 1 ∷ 2 ∷ []; order = ascending; is_unique = true } ∷
-    record { name = codes "sqlite_autoindex_register_1"; tree = 7; table = 6; columns = 2 ∷ 3 ∷ []; order = ascending; is_unique = true } ∷
-    record { name = codes "sqlite_autoindex_sent_1"; tree = 12; table = 11; columns = 2 ∷ 3 ∷ []; order = ascending; is_unique = true } ∷
-    record { name = codes "register_about"; tree = 14; table = 6; columns = 4 ∷ 5 ∷ []; order = ascending; is_unique = false } ∷
-    record { name = codes "unmatched_key"; tree = 15; table = 9; columns = 2 ∷ 3 ∷ 4 ∷ 5 ∷ 6 ∷ 7 ∷ 8 ∷ 9 ∷ 10 ∷ []; order = ascending; is_unique = false } ∷
-    record { name = codes "sent_about"; tree = 16; table = 11; columns = 5 ∷ []; order = ascending; is_unique = false }
+    record { name = codes "sqlite_autoindex_register_1"; tree = 7; table = 6; columns = 2 ∷ 3 ∷ []; order = ascending; is_unique = true }
     ∷ []
 
 abbrev pub desk_schema : Schema

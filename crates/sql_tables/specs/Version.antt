@@ -13,9 +13,9 @@ SayVersion rows (Some number) = (rest : Row) × IsBare rest × (rows ≡ (Int (p
 
 -- the table says this version, or none
 abbrev pub HasVersion : Database → Option ℕ → Type 0
-HasVersion db number = SayVersion (db.trees 13) number
+HasVersion db number = SayVersion (db.trees 10) number
 
 -- the table says a version, and no other has changed
 pub record SetsVersion (old new : Database) (number : ℕ) : Type 0 where
   pub version : HasVersion new (Some number)
-  pub others : SparesOthers 13 14 old new
+  pub others : SparesOthers 10 11 old new

@@ -11,7 +11,7 @@ ghost use Rattle.sql_tables.specs.Making.{first_of, Makes, IsEmpty, HasMade, Kee
 
 use sqlite::{Alter, Connection, Error};
 
-/// Makes a table or an index.
+/// Makes a table.
 fn make<S: Alter>(conn: &mut Connection<S>, text: &str) -> Result<usize, Error>
     ensures made { HasCleanDisk (state S.Store conn.new) → IsTrue (state S.Store conn.old).is_open → (before after : Schema) → Makes text.now before after → IsEmpty before (tables S.Store conn.old) → OnOk result (HasMade after (state S.Store conn.old) (state S.Store conn.new)) }
     ensures kept { HasCleanDisk (state S.Store conn.new) → OnErr result (KeepsCommitted (state S.Store conn.old) (state S.Store conn.new)) }
@@ -58,29 +58,15 @@ fn make_register<S: Alter>(conn: &mut Connection<S>) -> Result<(), Error>
     Ok(())
 }
 
-/// The tables of what is unmatched and what is due.
-fn make_waiting<S: Alter>(conn: &mut Connection<S>) -> Result<(), Error>
-    ensures made { HasCleanDisk (state S.Store conn.new) → IsTrue (state S.Store conn.old).is_open → IsEmpty (first_of 5 4) (tables S.Store conn.old) → OnOk result (HasMade (first_of 7 4) (state S.Store conn.old) (state S.Store conn.new)) }
+/// The tables of what was sent, and of the version.
+fn make_messages<S: Alter>(conn: &mut Connection<S>) -> Result<(), Error>
+    ensures made { HasCleanDisk (state S.Store conn.new) → IsTrue (state S.Store conn.old).is_open → IsEmpty (first_of 5 4) (tables S.Store conn.old) → OnOk result (HasMade desk_schema (state S.Store conn.old) (state S.Store conn.new)) }
     ensures kept { HasCleanDisk (state S.Store conn.new) → IsTrue (state S.Store conn.old).is_open → IsTrue (state S.Store conn.old).in_transaction → IsEmpty (first_of 5 4) (tables S.Store conn.old) → OnErr result (KeepsCommitted (state S.Store conn.old) (state S.Store conn.new)) }
     ensures later { IsLater (state S.Store conn.old) (state S.Store conn.new) }
 {
     make(
         conn,
-        "CREATE TABLE unmatched (number INTEGER PRIMARY KEY, isin TEXT NOT NULL, day TEXT NOT NULL, quantity INTEGER NOT NULL, sender TEXT NOT NULL, counterparty TEXT NOT NULL, mt INTEGER NOT NULL, unit TEXT NOT NULL, currency TEXT NOT NULL, amount INTEGER NOT NULL) STRICT",
-    )?;
-    make(conn, "CREATE TABLE due (place INTEGER PRIMARY KEY) STRICT")?;
-    Ok(())
-}
-
-/// The tables of what was sent, and of the version.
-fn make_messages<S: Alter>(conn: &mut Connection<S>) -> Result<(), Error>
-    ensures made { HasCleanDisk (state S.Store conn.new) → IsTrue (state S.Store conn.old).is_open → IsEmpty (first_of 7 4) (tables S.Store conn.old) → OnOk result (HasMade (first_of 9 5) (state S.Store conn.old) (state S.Store conn.new)) }
-    ensures kept { HasCleanDisk (state S.Store conn.new) → IsTrue (state S.Store conn.old).is_open → IsTrue (state S.Store conn.old).in_transaction → IsEmpty (first_of 7 4) (tables S.Store conn.old) → OnErr result (KeepsCommitted (state S.Store conn.old) (state S.Store conn.new)) }
-    ensures later { IsLater (state S.Store conn.old) (state S.Store conn.new) }
-{
-    make(
-        conn,
-        "CREATE TABLE sent (number INTEGER PRIMARY KEY, bic TEXT NOT NULL, place INTEGER NOT NULL, mt INTEGER NOT NULL, about INTEGER NOT NULL, text TEXT NOT NULL, UNIQUE (bic, place)) STRICT",
+        "CREATE TABLE sent (number INTEGER PRIMARY KEY, bic TEXT NOT NULL, mt INTEGER NOT NULL, about INTEGER NOT NULL, text TEXT NOT NULL) STRICT",
     )?;
     make(
         conn,
@@ -89,25 +75,7 @@ fn make_messages<S: Alter>(conn: &mut Connection<S>) -> Result<(), Error>
     Ok(())
 }
 
-/// The indexes beside those of the keys.
-fn make_indexes<S: Alter>(conn: &mut Connection<S>) -> Result<(), Error>
-    ensures made { HasCleanDisk (state S.Store conn.new) → IsTrue (state S.Store conn.old).is_open → IsEmpty (first_of 9 5) (tables S.Store conn.old) → OnOk result (HasMade desk_schema (state S.Store conn.old) (state S.Store conn.new)) }
-    ensures kept { HasCleanDisk (state S.Store conn.new) → IsTrue (state S.Store conn.old).is_open → IsTrue (state S.Store conn.old).in_transaction → IsEmpty (first_of 9 5) (tables S.Store conn.old) → OnErr result (KeepsCommitted (state S.Store conn.old) (state S.Store conn.new)) }
-    ensures later { IsLater (state S.Store conn.old) (state S.Store conn.new) }
-{
-    make(
-        conn,
-        "CREATE INDEX register_about ON register (kind, about)",
-    )?;
-    make(
-        conn,
-        "CREATE INDEX unmatched_key ON unmatched (isin, day, quantity, sender, counterparty, mt, unit, currency, amount)",
-    )?;
-    make(conn, "CREATE INDEX sent_about ON sent (about)")?;
-    Ok(())
-}
-
-/// Makes the tables and then the indexes, in a database that has none. Where it fails, the transaction that it is made in should be given up.
+/// Makes the tables, in a database that has none. Where it fails, the transaction that it is made in should be given up.
 pub fn make_tables<S: Alter>(conn: &mut Connection<S>) -> Result<(), Error>
     ensures made { HasCleanDisk (state S.Store conn.new) → IsTrue (state S.Store conn.old).is_open → IsEmpty no_schema (tables S.Store conn.old) → OnOk result (HasMade desk_schema (state S.Store conn.old) (state S.Store conn.new)) }
     ensures kept { HasCleanDisk (state S.Store conn.new) → IsTrue (state S.Store conn.old).is_open → IsTrue (state S.Store conn.old).in_transaction → IsEmpty no_schema (tables S.Store conn.old) → OnErr result (KeepsCommitted (state S.Store conn.old) (state S.Store conn.new)) }
@@ -115,8 +83,6 @@ pub fn make_tables<S: Alter>(conn: &mut Connection<S>) -> Result<(), Error>
 {
     make_amounts(conn)?;
     make_register(conn)?;
-    make_waiting(conn)?;
     make_messages(conn)?;
-    make_indexes(conn)?;
     Ok(())
 }

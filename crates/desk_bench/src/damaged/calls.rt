@@ -3,20 +3,18 @@
 use crate::damaged::keys::Keys;
 use desk_codes::Ccy;
 use desk_rules::{Sender, State};
-use sql_amounts::{AmountKey, amount, next_holding};
+use sql_amounts::{AmountKey, amount, held, held_cash, next_holding};
 use sql_entries::{
-    entry_at, entry_count, is_participant, kind_of, last_run, number_of, owner_of, reply_at,
-    security_after,
+    entry_at, entry_count, is_participant, kind_of, last_run, next_opposite, number_of, owner_of,
+    reply_at, security_after,
 };
-use sql_sent::{confirmation_of, last_place, sent_at, sent_count};
-use sql_standings::due::next_due;
-use sql_standings::standings::standing;
-use sql_standings::unmatched::first_unmatched;
+use sql_sent::{confirmation_of, sent_at, sent_count};
+use sql_standings::standings::{next_matched, standing};
 use sql_tables::version::version;
 use sqlite::{Alter, Connection, Error};
 use std::alloc::Global;
 
-/// Of `sql_amounts`: `amount` of a key of each kind, and `next_holding`.
+/// Of `sql_amounts`: `amount` of a key of each kind, and the others.
 #[derive(Clone, Copy)]
 pub enum AmountCall {
     Balance,
@@ -24,6 +22,8 @@ pub enum AmountCall {
     Security,
     Currency,
     NextHolding,
+    Held,
+    HeldCash,
 }
 
 /// Of `sql_entries`, by number.
@@ -46,14 +46,14 @@ pub enum FindingCall {
     FirstSecurity,
     SecurityAfter,
     LastRun,
+    NextOpposite,
 }
 
 /// Of `sql_standings`.
 #[derive(Clone, Copy)]
 pub enum InstructionCall {
     Standing,
-    NextDue,
-    FirstUnmatched,
+    NextMatched,
 }
 
 /// Of `sql_sent`, and the version of `sql_tables`.
@@ -62,7 +62,6 @@ pub enum MessageCall {
     SentAt,
     ConfirmationOf,
     SentCount,
-    LastPlace,
     Version,
 }
 
@@ -77,12 +76,14 @@ pub enum Call {
 }
 
 /// Each by its name.
-const CALLS: [(&str, Call); 24] = [
+const CALLS: [(&str, Call); 25] = [
     ("balance", Call::Amount(AmountCall::Balance)),
     ("cash", Call::Amount(AmountCall::Cash)),
     ("security", Call::Amount(AmountCall::Security)),
     ("currency", Call::Amount(AmountCall::Currency)),
     ("next_holding", Call::Amount(AmountCall::NextHolding)),
+    ("held", Call::Amount(AmountCall::Held)),
+    ("held_cash", Call::Amount(AmountCall::HeldCash)),
     ("entry_count", Call::Entry(EntryCall::EntryCount)),
     ("entry_at", Call::Entry(EntryCall::EntryAt)),
     ("reply_at", Call::Entry(EntryCall::ReplyAt)),
@@ -100,11 +101,11 @@ const CALLS: [(&str, Call); 24] = [
     ("first_security", Call::Finding(FindingCall::FirstSecurity)),
     ("security_after", Call::Finding(FindingCall::SecurityAfter)),
     ("last_run", Call::Finding(FindingCall::LastRun)),
+    ("next_opposite", Call::Finding(FindingCall::NextOpposite)),
     ("standing", Call::Instruction(InstructionCall::Standing)),
-    ("next_due", Call::Instruction(InstructionCall::NextDue)),
     (
-        "first_unmatched",
-        Call::Instruction(InstructionCall::FirstUnmatched),
+        "next_matched",
+        Call::Instruction(InstructionCall::NextMatched),
     ),
     ("sent_at", Call::Message(MessageCall::SentAt)),
     (
@@ -112,7 +113,6 @@ const CALLS: [(&str, Call); 24] = [
         Call::Message(MessageCall::ConfirmationOf),
     ),
     ("sent_count", Call::Message(MessageCall::SentCount)),
-    ("last_place", Call::Message(MessageCall::LastPlace)),
     ("version", Call::Message(MessageCall::Version)),
 ];
 
@@ -140,6 +140,8 @@ impl AmountCall {
             AmountCall::Security => AmountKey::Security(keys.isin),
             AmountCall::Currency => AmountKey::Currency(Ccy::Eur),
             AmountCall::NextHolding => return found(next_holding(conn, keys.account, None)),
+            AmountCall::Held => return counted(held(conn, keys.isin)),
+            AmountCall::HeldCash => return counted(held_cash(conn, Ccy::Eur)),
         };
         found(amount(conn, &key))
     }
@@ -171,20 +173,16 @@ impl FindingCall {
             FindingCall::FirstSecurity => found(security_after(conn, None)),
             FindingCall::SecurityAfter => found(security_after(conn, Some(keys.isin))),
             FindingCall::LastRun => found(last_run(conn)),
+            FindingCall::NextOpposite => found(next_opposite(conn, keys.bic, &keys.delivery, 0)),
         }
     }
 }
 
 impl InstructionCall {
-    fn answer<S: Alter>(self, conn: &mut Connection<S>, keys: &Keys) -> Result<bool, Error> {
+    fn answer<S: Alter>(self, conn: &mut Connection<S>) -> Result<bool, Error> {
         match self {
             InstructionCall::Standing => Ok(standing(conn, 1)?.state != State::NoInstruction),
-            InstructionCall::NextDue => found(next_due(conn, None, keys.day)),
-            InstructionCall::FirstUnmatched => found(first_unmatched(
-                conn,
-                keys.bic,
-                &keys.delivery,
-            )),
+            InstructionCall::NextMatched => found(next_matched(conn, 0)),
         }
     }
 }
@@ -200,7 +198,6 @@ impl MessageCall {
             MessageCall::SentAt => found(sent_at(conn, alloc, keys.bic, 1)),
             MessageCall::ConfirmationOf => found(confirmation_of(conn, alloc, 8)),
             MessageCall::SentCount => counted(sent_count(conn)),
-            MessageCall::LastPlace => counted(last_place(conn, keys.bic)),
             MessageCall::Version => found(version(conn)),
         }
     }
@@ -228,7 +225,7 @@ impl Call {
             Call::Amount(call) => call.answer(conn, keys),
             Call::Entry(call) => call.answer(conn, alloc),
             Call::Finding(call) => call.answer(conn, keys),
-            Call::Instruction(call) => call.answer(conn, keys),
+            Call::Instruction(call) => call.answer(conn),
             Call::Message(call) => call.answer(conn, alloc, keys),
         }
     }

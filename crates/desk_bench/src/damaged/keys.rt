@@ -1,8 +1,8 @@
 //! What the damaged rows are looked up by.
 
 use crate::failure::Failure;
-use crate::market::{Market, day};
-use desk_codes::{AccountId, Bic, Day, Isin, Reference};
+use crate::market::Market;
+use desk_codes::{AccountId, Bic, Isin, Reference};
 use desk_msg::{Instruction, Message, Mt, ReadFault, read_instruction_text};
 use std::alloc::Global;
 
@@ -17,8 +17,6 @@ pub struct Keys {
     pub isin: Isin,
     /// A1
     pub reference: Reference,
-    /// 29 February 2024
-    pub day: Day,
     /// 400 of the security, delivered free by ALPHDEFF to BETADEFF
     pub delivery: Instruction,
 }
@@ -67,7 +65,6 @@ impl Keys {
             account: market.deliverer.account,
             isin: market.isin,
             reference: delivery.reference,
-            day: day(b"20240229")?,
             delivery,
         })
     }

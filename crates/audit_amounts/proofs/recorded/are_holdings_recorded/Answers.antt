@@ -1,4 +1,4 @@
-use Rattle.std.proofs.Common.{Ok, Some, subst}
+use Rattle.std.proofs.Common.{Some, subst}
 use Rattle.sqlite.specs.Held.{state}
 use Rattle.desk_rules.specs.Content.{Content}
 use Rattle.desk_register.specs.Looked.{IsHoldingAfter}

@@ -1,4 +1,4 @@
-use Rattle.std.proofs.Common.{◌≡◌, ◌∙◌, ap, sym, subst, arith, take}
+use Rattle.std.proofs.Common.{◌≡◌, ◌+◌, ◌∙◌, ap, sym, subst, arith}
 use Rattle.std.specs.List.{AllByRecursion}
 use Rattle.sqlite.specs.Effect.{Database}
 use Rattle.sqlite.specs.Held.{state}
@@ -9,8 +9,7 @@ use Rattle.sql_tables.specs.Schema.{desk_schema, sent_table}
 use Rattle.sql_opening.specs.Forms.{HasForm}
 use Rattle.sql_tables.proofs.LookLemmas.{look_more}
 use Rattle.desk_register.proofs.ReadLemmas.{read_more}
-use Rattle.audit_sent.specs.Placed.{ArePlaces}
-use Rattle.audit_sent.specs.Told.{IsToldNext}
+use Rattle.audit_sent.specs.Told.{IsTold}
 use Rattle.audit_sent.proofs.TableLemmas.{told_next}
 use Rattle.audit_sent.proofs.table.are_told.Goals as goal
 
@@ -34,9 +33,8 @@ loop-before-preserved g c =
           let has1 : s1.now.schema ≡ desk_schema = ap (λ (d : Database). d.schema) same.now ∙ has in
           let honest1 = e.read.later.honest honest in
           let so = i.told clean1 is_open has honest1 sure formed in
-          let formed1 = subst (λ (d : Database). AllByRecursion (HasForm sent_table) (d.trees 11)) (sym same.now) formed in
-          let counted1 = subst (λ (x : Content). ArePlaces c.loop-before.places (take n x.sent)) (sym (i.read.same honest1 sure)) so.counted in
-          let here = e.told clean same.is_open has1 honest (i.read.ok.sure honest1 sure) formed1 counted1 c.if-not-branch.false in
-          let here0 = subst (λ (d : Database). IsToldNext (d.trees 11) v1.content.sent n c.is_told.new.places) same.now here in
-          told_next (s0.now.trees 11) v0.content.sent n c.is_told.new.places so.told (subst (λ (x : Content). IsToldNext (s0.now.trees 11) x.sent n c.is_told.new.places) (i.read.same honest1 sure) here0);
+          let formed1 = subst (λ (d : Database). AllByRecursion (HasForm sent_table) (d.trees 9)) (sym same.now) formed in
+          let here = e.told clean same.is_open has1 honest (i.read.ok.sure honest1 sure) formed1 c.if-not-branch.false in
+          let here0 = subst (λ (d : Database). IsTold (d.trees 9) v1.content.sent (n + 1)) same.now here in
+          told_next (s0.now.trees 9) v0.content.sent n so (subst (λ (x : Content). IsTold (s0.now.trees 9) x.sent (n + 1)) (i.read.same honest1 sure) here0);
     }

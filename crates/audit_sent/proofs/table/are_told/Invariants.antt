@@ -5,7 +5,7 @@ use Rattle.sql_tables.specs.Calls.{Soundly, tables}
 use Rattle.sql_tables.specs.Schema.{sent_table}
 use Rattle.sql_opening.specs.Forms.{HasForm}
 use Rattle.sql_tables.specs.Ends.{HasLooked}
-use Rattle.audit_sent.proofs.TableLemmas.{AreToldSoFar}
+use Rattle.audit_sent.specs.Told.{AreTold}
 use Rattle.audit_sent.proofs.table.are_told.Given as goal
 
 -- the rows so far are those of their messages
@@ -13,6 +13,6 @@ abbrev pub invariant-loop-before : goal.invariant-loop-before
 invariant-loop-before g l = record {
   look : HasLooked (state g.S.Store l.fn.conn) (state g.S.Store l.conn);
   read : HasRead (g.R.Register.view l.fn.register) (g.R.Register.view l.register);
-  told : Soundly g.S.Store l.fn.conn l.conn (IfTrusted (g.R.Register.view l.fn.register) (g.R.Register.view l.register) (AllByRecursion (HasForm sent_table) ((tables g.S.Store l.fn.conn).trees 11)
-      → AreToldSoFar ((tables g.S.Store l.fn.conn).trees 11) (g.R.Register.view l.fn.register).content.sent l.before l.places));
+  told : Soundly g.S.Store l.fn.conn l.conn (IfTrusted (g.R.Register.view l.fn.register) (g.R.Register.view l.register) (AllByRecursion (HasForm sent_table) ((tables g.S.Store l.fn.conn).trees 9)
+      → AreTold ((tables g.S.Store l.fn.conn).trees 9) (g.R.Register.view l.fn.register).content.sent l.before));
 }

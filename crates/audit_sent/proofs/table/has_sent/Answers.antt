@@ -30,7 +30,7 @@ returns-clause-sent g c = λ clean is_open has honest sure order formed.
     let is : count ≡ length v0.content.sent = e.value honest1 sure (idle_goes v0.stage c.requires.stage) in
     let none = n.none clean1 is_open has c.if-not-branch.false in
     let formed1 = subst (λ (d : Database). AreAllFormed d.trees) (sym same.now) formed in
-    let told = a.told clean same.is_open has1 honest sure1 formed1.1.1.1.1.1.1.1.0.each in
+    let told = a.told clean same.is_open has1 honest sure1 formed1.1.1.1.1.1.0.each in
     finish s0.now v0.content count c.are_told.result is few order formed none
-    (subst (λ (x : Content). IfOk c.are_told.result (λ ok. IsTrue ok → AreTold (s0.now.trees 11) x.sent count)) (e.read.same honest1 sure)
-    (subst (λ (d : Database). IfOk c.are_told.result (λ ok. IsTrue ok → AreTold (d.trees 11) v1.content.sent count)) same.now told))
+    (subst (λ (x : Content). IfOk c.are_told.result (λ ok. IsTrue ok → AreTold (s0.now.trees 9) x.sent count)) (e.read.same honest1 sure)
+    (subst (λ (d : Database). IfOk c.are_told.result (λ ok. IsTrue ok → AreTold (d.trees 9) v1.content.sent count)) same.now told))

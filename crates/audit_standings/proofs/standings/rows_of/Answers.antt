@@ -6,4 +6,4 @@ pub query-requires : goal.query-requires
 query-requires g c = record { query = reads_all }
 
 pub returns-clause-shown : goal.returns-clause-shown
-returns-clause-shown g c clean is_open has = all_shown (state g.S.Store c.args.conn.now) (state g.S.Store c.query.new.conn) has c.query.result (c.query.ensures.shown clean)
+returns-clause-shown g c clean is_open has up = all_shown (state g.S.Store c.args.conn.now) (state g.S.Store c.query.new.conn) has up c.query.result (c.query.ensures.shown clean)

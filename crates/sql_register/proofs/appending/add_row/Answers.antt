@@ -9,18 +9,18 @@ use Rattle.sql_register.proofs.CauseLemmas.{caused_error, looked}
 use Rattle.sql_register.proofs.appending.add_row.Goals as goal
 
 pub returns-in_err-number-clause-blame : goal.returns-in_err-number-clause-blame
-returns-in_err-number-clause-blame g c clean is_open has register are known fits formed unused =
-    let count = c.in_ok-count.ensures.value clean is_open has register are known in
+returns-in_err-number-clause-blame g c clean is_open has register are fits formed unused =
+    let count = c.in_ok-count.ensures.value clean is_open has register are in
     absurd (let ok = c.in_err-number.ensures.all (omega (arith, count, fits)) in let bad = ok in cc)
 
 pub returns-in_err-add_entry-clause-blame : goal.returns-in_err-add_entry-clause-blame
-returns-in_err-add_entry-clause-blame g c clean is_open has register are known fits formed unused =
+returns-in_err-add_entry-clause-blame g c clean is_open has register are fits formed unused =
     let s0 = state g.S.Store c.args.conn.now in
-    let s1 = state g.S.Store c.count_entries.new.conn in
+    let s1 = state g.S.Store c.entry_count.new.conn in
     let s2 = state g.S.Store c.add_entry.new.conn in
     let e = c.in_err-add_entry.field-0.0 in
     let clean1 : HasCleanDisk s1 = omega (arith, clean, c.in_err-add_entry.ensures.write.later.clean) in
-    let count : c.in_ok-count.count ≡ length register = c.in_ok-count.ensures.value clean1 is_open has register are known in
+    let count : c.in_ok-count.count ≡ length register = c.in_ok-count.ensures.value clean1 is_open has register are in
     let number : c.in_ok-number.number ≡ length register + 1 = c.in_ok-number.ensures.next ∙ ap (λ n. n + 1) count in
     on_error c.from_residual-in_err-add_entry.result e (ForCause s0 s2) c.from_residual-in_err-add_entry.ensures.1
     (caused_error e s0 s1 s2 (AreEntries s1.now register) c.in_ok-count.ensures.look.later c.in_err-add_entry.ensures.write.later (looked _ s0 s1 (λ (d : Database). AreEntries d register) c.in_ok-count.ensures.look are)

@@ -7,16 +7,16 @@ use Rattle.sql_tables.proofs.ResultLemmas.{on_error}
 use Rattle.sql_register.proofs.appending.append_alone.Goals as goal
 
 pub returns-clause-changed : goal.returns-clause-changed
-returns-clause-changed g c clean is_open has desk known is room can =
-    let added = c.in_ok-add_row.ensures.added clean is_open has (content_in (state g.S.Store c.args.conn.now).now).register desk.entries known in
+returns-clause-changed g c clean is_open has desk is room can =
+    let added = c.in_ok-add_row.ensures.added clean is_open has (content_in (state g.S.Store c.args.conn.now).now).register desk.entries in
     alone_becomes (state g.S.Store c.args.conn.now).now (state g.S.Store c.add_row.new.conn).now c.args.entry.now c.args.reply.now
     (row_added (state g.S.Store c.args.conn.now).now (state g.S.Store c.add_row.new.conn).now (content_in (state g.S.Store c.args.conn.now).now).register c.args.entry.now c.args.reply.now c.in_ok-add_row.field-0 added c.in_ok-add_row.ensures.within c.in_ok-add_row.ensures.formed c.in_ok-add_row.ensures.short) room desk is can (c.in_ok-add_row.ensures.write.ok clean is_open has).schema
 
 pub returns-in_err-add_row-clause-blame : goal.returns-in_err-add_row-clause-blame
-returns-in_err-add_row-clause-blame g c clean is_open has desk known room small can =
+returns-in_err-add_row-clause-blame g c clean is_open has desk room small can =
     let s0 = state g.S.Store c.args.conn.now in
     let e = c.in_err-add_row.field-0.0 in
     let has_room = can.has_room in
     let fits : length (content_in s0.now).register + 1 < 1_000_000_000 = omega (arith, has_room, small) in
     on_error c.from_residual.result e (ForCause s0 (state g.S.Store c.add_row.new.conn)) c.from_residual.ensures.1
-    (c.in_err-add_row.ensures.blame clean is_open has (content_in s0.now).register desk.entries known fits desk.formed can.new_key)
+    (c.in_err-add_row.ensures.blame clean is_open has (content_in s0.now).register desk.entries fits desk.formed can.new_key)

@@ -33,7 +33,7 @@ becomes old d0 d1 new sender order reply room k (Ok tt) same desk can added is s
 becomes old d0 d1 new sender order reply room k (Err e) same desk can added is stays stood = tt
 
 pub returns-clause-changed : goal.returns-clause-changed
-returns-clause-changed g c clean is_open has desk known room can =
+returns-clause-changed g c clean is_open has desk room can =
     let old = state g.S.Store c.args.conn.now in
     let d0 = state g.S.Store c.number_of.new.conn in
     let d1 = state g.S.Store c.add_row.new.conn in
@@ -46,10 +46,9 @@ returns-clause-changed g c clean is_open has desk known room can =
     let same = c.in_ok-number.ensures.look.ok clean0 is_open has in
     let found = c.in_ok-number.ensures.value clean0 is_open has (content_in old.now).register desk.entries in
     let desk0 : IsDesk d0.now = subst IsDesk (sym same.now) desk in
-    let known0 : IfSome c.args.known (λ n. n ≡ length (content_in d0.now).register) = subst (λ db. IfSome c.args.known (λ n. n ≡ length (content_in db).register)) (sym same.now) known in
     let can0 : CanAppend room (Cancel sender order) reply (content_in d0.now) = subst (λ db. CanAppend room (Cancel sender order) reply (content_in db)) (sym same.now) can in
     let stays1 = c.in_ok-add_row.ensures.write.ok clean1 same.is_open desk0.schema in
-    let added = row_added d0.now d1.now (content_in d0.now).register (Cancel sender order) reply c.in_ok-add_row.field-0 (c.in_ok-add_row.ensures.added clean1 same.is_open desk0.schema (content_in d0.now).register desk0.entries known0) c.in_ok-add_row.ensures.within c.in_ok-add_row.ensures.formed c.in_ok-add_row.ensures.short in
+    let added = row_added d0.now d1.now (content_in d0.now).register (Cancel sender order) reply c.in_ok-add_row.field-0 (c.in_ok-add_row.ensures.added clean1 same.is_open desk0.schema (content_in d0.now).register desk0.entries) c.in_ok-add_row.ensures.within c.in_ok-add_row.ensures.formed c.in_ok-add_row.ensures.short in
     let stood = c.ask.ensures.changed clean stays1.is_open stays1.schema (cancel_standings d0.now d1.now sender order reply room desk0 can0 added) in
     let named : number_of_key (history_of (content_in d0.now)) (FromParticipant sender) order.previous ≡ Some c.in_ok-named.named =
     ap (λ db. number_of_key (history_of (content_in db)) (FromParticipant sender) order.previous) same.now ∙ sym found ∙ c.in-Some.is ∙ ap Some (sym c.in_ok-named.ensures.same) in
@@ -72,20 +71,20 @@ returns-clause-write g c =
     write_then c.in_ok-add_row.field-0 c.ask.result old d1 new (write_then _ (Ok c.in_ok-add_row.field-0) old d0 d1 (look_write _ old d0 c.in_ok-number.ensures.look) c.in_ok-add_row.ensures.write) c.ask.ensures.write
 
 pub returns-in_err-number-clause-blame : goal.returns-in_err-number-clause-blame
-returns-in_err-number-clause-blame g c clean is_open has desk known room small can =
+returns-in_err-number-clause-blame g c clean is_open has desk room small can =
     let s0 = state g.S.Store c.args.conn.now in
     let e = c.in_err-number.field-0.0 in
     on_error c.from_residual.result e (ForCause s0 (state g.S.Store c.number_of.new.conn)) c.from_residual.ensures.1
     (c.in_err-number.ensures.blame clean is_open has (content_in s0.now).register desk.entries)
 
 pub returns-in_default-clause-blame : goal.returns-in_default-clause-blame
-returns-in_default-clause-blame g c clean is_open has desk known room small can =
+returns-in_default-clause-blame g c clean is_open has desk room small can =
     let s0 = state g.S.Store c.args.conn.now in
     let found = c.in_ok-number.ensures.value clean is_open has (content_in s0.now).register desk.entries in
     absurd (names_known s0.now c.args.sender c.args.order.now c.args.reply.now room desk can (sym found ∙ c.in_default.is))
 
 pub returns-in_err-named-clause-blame : goal.returns-in_err-named-clause-blame
-returns-in_err-named-clause-blame g c clean is_open has desk known room small can =
+returns-in_err-named-clause-blame g c clean is_open has desk room small can =
     let s0 = state g.S.Store c.args.conn.now in
     let d0 = state g.S.Store c.number_of.new.conn in
     let e = c.in_err-named.field-0.0 in
@@ -96,7 +95,7 @@ returns-in_err-named-clause-blame g c clean is_open has desk known room small ca
     (c.in_err-named.ensures.all (named_above s0.now c.args.sender c.args.order.now c.args.reply.now room desk can _ key) (named_below s0.now c.args.sender c.args.order.now c.args.reply.now room desk can _ key)))
 
 pub returns-in_err-add_row-clause-blame : goal.returns-in_err-add_row-clause-blame
-returns-in_err-add_row-clause-blame g c clean is_open has desk known room small can =
+returns-in_err-add_row-clause-blame g c clean is_open has desk room small can =
     let s0 = state g.S.Store c.args.conn.now in
     let d0 = state g.S.Store c.number_of.new.conn in
     let d1 = state g.S.Store c.add_row.new.conn in
@@ -106,10 +105,10 @@ returns-in_err-add_row-clause-blame g c clean is_open has desk known room small 
     let fits : length register + 1 < 1_000_000_000 = omega (arith, has_room, small) in
     on_error c.from_residual-in_err-add_row.result e (ForCause s0 d1) c.from_residual-in_err-add_row.ensures.1
     (caused_error e s0 d0 d1 (AreEntries d0.now register) c.in_ok-number.ensures.look.later c.in_err-add_row.ensures.write.later (looked _ s0 d0 (λ d. AreEntries d register) c.in_ok-number.ensures.look desk.entries)
-    (λ clean1 open0 has0 are. c.in_err-add_row.ensures.blame clean1 open0 has0 register are known fits desk.formed can.new_key) clean is_open has)
+    (λ clean1 open0 has0 are. c.in_err-add_row.ensures.blame clean1 open0 has0 register are fits desk.formed can.new_key) clean is_open has)
 
 pub returns-clause-blame : goal.returns-clause-blame
-returns-clause-blame g c clean is_open has desk known room small can =
+returns-clause-blame g c clean is_open has desk room small can =
     let s0 = state g.S.Store c.args.conn.now in
     let d0 = state g.S.Store c.number_of.new.conn in
     let d1 = state g.S.Store c.add_row.new.conn in
@@ -126,10 +125,9 @@ returns-clause-blame g c clean is_open has desk known room small can =
     let first = looked _ s0 d0 (λ d. d ≡ s0.now) c.in_ok-number.ensures.look refl in
     let second = wrote_then c.in_ok-add_row.field-0 s0 d0 d1 (d0.now ≡ s0.now) Asks first c.in_ok-add_row.ensures.write (λ clean2 open1 has1 same.
     let desk0 : IsDesk d0.now = subst IsDesk (sym same) desk in
-    let known0 : IfSome c.args.known (λ n. n ≡ length (content_in d0.now).register) = subst (λ db. IfSome c.args.known (λ n. n ≡ length (content_in db).register)) (sym same) known in
     let can0 : CanAppend room (Cancel sender order) reply (content_in d0.now) = subst (λ db. CanAppend room (Cancel sender order) reply (content_in db)) (sym same) can in
     let key0 : number_of_key (history_of (content_in d0.now)) (FromParticipant sender) order.previous ≡ Some n = ap (λ db. number_of_key (history_of (content_in db)) (FromParticipant sender) order.previous) same ∙ key in
-    let added = row_added d0.now d1.now (content_in d0.now).register (Cancel sender order) reply c.in_ok-add_row.field-0 (c.in_ok-add_row.ensures.added clean2 open1 has1 (content_in d0.now).register desk0.entries known0) c.in_ok-add_row.ensures.within c.in_ok-add_row.ensures.formed c.in_ok-add_row.ensures.short in
+    let added = row_added d0.now d1.now (content_in d0.now).register (Cancel sender order) reply c.in_ok-add_row.field-0 (c.in_ok-add_row.ensures.added clean2 open1 has1 (content_in d0.now).register desk0.entries) c.in_ok-add_row.ensures.within c.in_ok-add_row.ensures.formed c.in_ok-add_row.ensures.short in
     (cancel_standings d0.now d1.now sender order reply room desk0 can0 added, asked_stands d0.now d1.now sender order reply room desk0 can0 added n key0)) in
     caused_from c.ask.result s0 d1 s3 Asks (later_then s0 d0 d1 c.in_ok-number.ensures.look.later c.in_ok-add_row.ensures.write.later) c.ask.ensures.write.later second
     (λ clean3 open2 has2 it. c.ask.ensures.blame clean3 open2 has2 it.0 it.1) clean is_open has

@@ -28,7 +28,7 @@ becomes old d1 d2 new m reply room (Ok tt) desk can added first len stays second
 becomes old d1 d2 new m reply room (Err e) desk can added first len stays second = tt
 
 pub returns-clause-changed : goal.returns-clause-changed
-returns-clause-changed g c clean is_open has desk known room can =
+returns-clause-changed g c clean is_open has desk room can =
     let old = state g.S.Store c.args.conn.now in
     let d1 = state g.S.Store c.add_row.new.conn in
     let d2 = state g.S.Store c.take_off.new.conn in
@@ -37,23 +37,23 @@ returns-clause-changed g c clean is_open has desk known room can =
     let clean2 : HasCleanDisk d2 = omega (arith, clean, c.take_off-2.ensures.write.later.clean) in
     let clean1 : HasCleanDisk d1 = omega (arith, clean2, c.in_ok-take_off.ensures.write.later.clean) in
     let stays1 = c.in_ok-add_row.ensures.write.ok clean1 is_open has in
-    let added = row_added old.now d1.now (content_in old.now).register (Redeem m) reply c.in_ok-add_row.field-0 (c.in_ok-add_row.ensures.added clean1 is_open has (content_in old.now).register desk.entries known) c.in_ok-add_row.ensures.within c.in_ok-add_row.ensures.formed c.in_ok-add_row.ensures.short in
+    let added = row_added old.now d1.now (content_in old.now).register (Redeem m) reply c.in_ok-add_row.field-0 (c.in_ok-add_row.ensures.added clean1 is_open has (content_in old.now).register desk.entries) c.in_ok-add_row.ensures.within c.in_ok-add_row.ensures.formed c.in_ok-add_row.ensures.short in
     let stays2 = c.in_ok-take_off.ensures.write.ok clean2 stays1.is_open stays1.schema in
     let first = c.in_ok-take_off.ensures.changed clean2 stays1.is_open stays1.schema (redeem_amounts old.now d1.now m reply room desk can added) in
     let second = c.take_off-2.ensures.changed clean stays2.is_open stays2.schema first.1.kept in
     becomes old d1 d2 (state g.S.Store c.take_off-2.new.conn) m reply room c.take_off-2.result desk can added first.1 c.named.ensures (c.take_off-2.ensures.write.ok clean stays2.is_open stays2.schema) second
 
 pub returns-in_err-add_row-clause-blame : goal.returns-in_err-add_row-clause-blame
-returns-in_err-add_row-clause-blame g c clean is_open has desk known room small can =
+returns-in_err-add_row-clause-blame g c clean is_open has desk room small can =
     let s0 = state g.S.Store c.args.conn.now in
     let e = c.in_err-add_row.field-0.0 in
     let has_room = can.has_room in
     let fits : length (content_in s0.now).register + 1 < 1_000_000_000 = omega (arith, has_room, small) in
     on_error c.from_residual.result e (ForCause s0 (state g.S.Store c.add_row.new.conn)) c.from_residual.ensures.1
-    (c.in_err-add_row.ensures.blame clean is_open has (content_in s0.now).register desk.entries known fits desk.formed can.new_key)
+    (c.in_err-add_row.ensures.blame clean is_open has (content_in s0.now).register desk.entries fits desk.formed can.new_key)
 
 pub returns-in_err-take_off-clause-blame : goal.returns-in_err-take_off-clause-blame
-returns-in_err-take_off-clause-blame g c clean is_open has desk known room small can =
+returns-in_err-take_off-clause-blame g c clean is_open has desk room small can =
     let s0 = state g.S.Store c.args.conn.now in
     let s1 = state g.S.Store c.add_row.new.conn in
     let s2 = state g.S.Store c.take_off.new.conn in
@@ -62,13 +62,13 @@ returns-in_err-take_off-clause-blame g c clean is_open has desk known room small
     let e = c.in_err-take_off.field-0.0 in
     let Row : Type 0 = RowAdded s0.now s1.now (content_in s0.now).register (Redeem m) reply in
     let first = wrote c.in_ok-add_row.field-0 s0 s1 Row c.in_ok-add_row.ensures.write (λ clean1 open0 has0.
-    row_added s0.now s1.now (content_in s0.now).register (Redeem m) reply c.in_ok-add_row.field-0 (c.in_ok-add_row.ensures.added clean1 open0 has0 (content_in s0.now).register desk.entries known) c.in_ok-add_row.ensures.within c.in_ok-add_row.ensures.formed c.in_ok-add_row.ensures.short) in
+    row_added s0.now s1.now (content_in s0.now).register (Redeem m) reply c.in_ok-add_row.field-0 (c.in_ok-add_row.ensures.added clean1 open0 has0 (content_in s0.now).register desk.entries) c.in_ok-add_row.ensures.within c.in_ok-add_row.ensures.formed c.in_ok-add_row.ensures.short) in
     on_error c.from_residual-in_err-take_off.result e (ForCause s0 s2) c.from_residual-in_err-take_off.ensures.1
     (caused_error e s0 s1 s2 Row c.in_ok-add_row.ensures.write.later c.in_err-take_off.ensures.write.later first
     (λ clean2 open1 has1 added. c.in_err-take_off.ensures.blame clean2 open1 has1 (redeem_amounts s0.now s1.now m reply room desk can added) added.formed.some (redeem_enough s0.now s1.now m reply room desk can added)) clean is_open has)
 
 pub returns-clause-blame : goal.returns-clause-blame
-returns-clause-blame g c clean is_open has desk known room small can =
+returns-clause-blame g c clean is_open has desk room small can =
     let s0 = state g.S.Store c.args.conn.now in
     let s1 = state g.S.Store c.add_row.new.conn in
     let s2 = state g.S.Store c.take_off.new.conn in
@@ -78,7 +78,7 @@ returns-clause-blame g c clean is_open has desk known room small can =
     let Row : Type 0 = RowAdded s0.now s1.now (content_in s0.now).register (Redeem m) reply in
     let Sets : Type 0 = SetsAmount s1.now s2.now (keys.Balance m.account m.isin) (had s1.now (keys.Balance m.account m.isin) - m.quantity) in
     let first = wrote c.in_ok-add_row.field-0 s0 s1 Row c.in_ok-add_row.ensures.write (λ clean1 open0 has0.
-    row_added s0.now s1.now (content_in s0.now).register (Redeem m) reply c.in_ok-add_row.field-0 (c.in_ok-add_row.ensures.added clean1 open0 has0 (content_in s0.now).register desk.entries known) c.in_ok-add_row.ensures.within c.in_ok-add_row.ensures.formed c.in_ok-add_row.ensures.short) in
+    row_added s0.now s1.now (content_in s0.now).register (Redeem m) reply c.in_ok-add_row.field-0 (c.in_ok-add_row.ensures.added clean1 open0 has0 (content_in s0.now).register desk.entries) c.in_ok-add_row.ensures.within c.in_ok-add_row.ensures.formed c.in_ok-add_row.ensures.short) in
     let second = wrote_then c.in_ok-take_off.field-0 s0 s1 s2 Row (Row × Sets) first c.in_ok-take_off.ensures.write (λ clean2 open1 has1 added.
     (added, (c.in_ok-take_off.ensures.changed clean2 open1 has1 (redeem_amounts s0.now s1.now m reply room desk can added)).1)) in
     caused_from c.take_off-2.result s0 s2 s3 (Row × Sets) (later_then s0 s1 s2 c.in_ok-add_row.ensures.write.later c.in_ok-take_off.ensures.write.later) c.take_off-2.ensures.write.later second

@@ -9,14 +9,14 @@ use Rattle.sql_register.specs.Content.{content_in}
 use Rattle.sql_register.proofs.looking.instruction.Goals as goal
 
 pub returns-in_err-found-clause-blame : goal.returns-in_err-found-clause-blame
-returns-in_err-found-clause-blame g c clean is_open has desk facts i is =
+returns-in_err-found-clause-blame g c clean is_open has desk i is =
     let s0 = state g.S.Store c.args.conn.now in
     let e = c.in_err-found.field-0.0 in
-    on_error c.from_residual.result e (ForCause s0 (state g.S.Store c.entry.new.conn)) c.from_residual.ensures.1
+    on_error c.from_residual.result e (ForCause s0 (state g.S.Store c.entry_at.new.conn)) c.from_residual.ensures.1
     (c.in_err-found.ensures.blame clean is_open has (content_in s0.now).register desk.entries desk.formed)
 
 pub returns-clause-blame : goal.returns-clause-blame
-returns-clause-blame g c clean is_open has desk facts i is =
+returns-clause-blame g c clean is_open has desk i is =
     let s0 = state g.S.Store c.args.conn.now in
-    let found = c.in_ok-found.ensures.value clean is_open has (content_in s0.now).register desk.entries facts in
-    no_error c.instructed_by.result (ForCause s0 (state g.S.Store c.entry.new.conn)) (c.instructed_by.ensures.all i (ap (λ (o : Option Entry). option_and_then instructed o) found ∙ is))
+    let found = c.in_ok-found.ensures.value clean is_open has (content_in s0.now).register desk.entries in
+    no_error c.instructed_by.result (ForCause s0 (state g.S.Store c.entry_at.new.conn)) (c.instructed_by.ensures.all i (ap (λ (o : Option Entry). option_and_then instructed o) found ∙ is))

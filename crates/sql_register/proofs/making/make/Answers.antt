@@ -23,7 +23,7 @@ returns-clause-made g c clean is_open blank =
     let begun = c.in_ok-begin_making.ensures.ok clean1 is_open blank in
     let made = c.in_ok-make_tables.ensures.made clean2 begun.is_open (blank_empty s1.now (ap (λ d. d.schema) begun.now ∙ blank)) in
     let stays = c.in_ok-set_version.ensures.write.ok clean3 made.is_open made.empty.schema_is in
-    let set = c.in_ok-set_version.ensures.set clean3 made.is_open made.empty.schema_is (no_version s2.now made.empty.empty.1.1.1.1.1.1.1.1.0) in
+    let set = c.in_ok-set_version.ensures.set clean3 made.is_open made.empty.schema_is (no_version s2.now made.empty.empty.1.1.1.1.1.1.0) in
     let done = c.in_ok-commit.ensures.ok clean stays.is_open stays.schema in
     record {
       is_open = done.is_open;

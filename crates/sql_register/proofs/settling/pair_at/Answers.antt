@@ -6,16 +6,16 @@ use Rattle.desk_rules.specs.Content.{history_of}
 use Rattle.desk_rules.specs.History.{instruction_at}
 use Rattle.sql_tables.specs.Schema.{desk_schema}
 use Rattle.sql_register.specs.Content.{content_in}
-use Rattle.sql_register.specs.Facts.{AreFactsOf}
 use Rattle.sql_register.specs.Holds.{IsDesk}
 use Rattle.sql_tables.specs.Ends.{ForCause}
 use Rattle.sql_tables.proofs.CallLemmas.{later_then}
 use Rattle.sql_tables.proofs.ResultLemmas.{on_error}
 use Rattle.sql_register.proofs.CauseLemmas.{caused_error, looked, looked_then}
+use Rattle.sql_register.proofs.WalkLemmas.{look_handed}
 use Rattle.sql_register.proofs.settling.pair_at.Goals as goal
 
 pub returns-clause-value : goal.returns-clause-value
-returns-clause-value g c clean is_open has desk facts =
+returns-clause-value g c clean is_open has desk =
     let s0 = state g.S.Store c.args.conn.now in
     let s1 = state g.S.Store c.instruction.new.conn in
     let s2 = state g.S.Store c.mate_of.new.conn in
@@ -27,42 +27,31 @@ returns-clause-value g c clean is_open has desk facts =
     let same2 = c.in_ok-mate.ensures.look.ok clean2 same1.is_open has1 in
     let has2 : s2.now.schema ≡ desk_schema = ap (λ d. d.schema) same2.now ∙ has1 in
     let same : s2.now ≡ s0.now = same2.now ∙ same1.now in
-    let desk2 : IsDesk s2.now = subst IsDesk (sym same) desk in
-    let noted = c.in_ok-later.ensures.noted clean1 is_open has desk facts in
-    let facts2 : AreFactsOf c.instruction.new.facts (content_in s2.now).register = subst (λ (d : Database). AreFactsOf c.instruction.new.facts (content_in d).register) (sym same) noted in (
+    let desk2 : IsDesk s2.now = subst IsDesk (sym same) desk in (
       refl,
       record {
-        is_later = c.in_ok-later.ensures.value clean1 is_open has desk facts;
+        is_later = c.in_ok-later.ensures.value clean1 is_open has desk;
         has_mate = ap (λ (d : Database). ((content_in d).standing c.args.number).mate) (sym same1.now) ∙ c.in_ok-mate.ensures.value clean2 same1.is_open has1 desk1;
-        is_earlier = ap (λ (d : Database). instruction_at (history_of (content_in d)) c.in_ok-mate.mate) (sym same) ∙ c.in_ok-earlier.ensures.value clean same2.is_open has2 desk2 facts2;
+        is_earlier = ap (λ (d : Database). instruction_at (history_of (content_in d)) c.in_ok-mate.mate) (sym same) ∙ c.in_ok-earlier.ensures.value clean same2.is_open has2 desk2;
       },
     )
 
-pub returns-clause-noted : goal.returns-clause-noted
-returns-clause-noted g c clean is_open has desk facts =
-    let s0 = state g.S.Store c.args.conn.now in
-    let s1 = state g.S.Store c.instruction.new.conn in
-    let s2 = state g.S.Store c.mate_of.new.conn in
-    let clean2 : HasCleanDisk s2 = omega (arith, clean, c.in_ok-earlier.ensures.look.later.clean) in
-    let clean1 : HasCleanDisk s1 = omega (arith, clean2, c.in_ok-mate.ensures.look.later.clean) in
-    let same1 = c.in_ok-later.ensures.look.ok clean1 is_open has in
-    let has1 : s1.now.schema ≡ desk_schema = ap (λ d. d.schema) same1.now ∙ has in
-    let same2 = c.in_ok-mate.ensures.look.ok clean2 same1.is_open has1 in
-    let has2 : s2.now.schema ≡ desk_schema = ap (λ d. d.schema) same2.now ∙ has1 in
-    let same : s2.now ≡ s0.now = same2.now ∙ same1.now in
-    let noted = c.in_ok-later.ensures.noted clean1 is_open has desk facts in
-    let facts2 : AreFactsOf c.instruction.new.facts (content_in s2.now).register = subst (λ (d : Database). AreFactsOf c.instruction.new.facts (content_in d).register) (sym same) noted in
-    subst (λ (d : Database). AreFactsOf c.instruction-2.new.facts (content_in d).register) same (c.in_ok-earlier.ensures.noted clean same2.is_open has2 (subst IsDesk (sym same) desk) facts2)
-
 pub returns-in_err-later-clause-blame : goal.returns-in_err-later-clause-blame
-returns-in_err-later-clause-blame g c clean is_open has desk facts mate earlier later pair =
+returns-in_err-later-clause-blame g c clean is_open has desk mate earlier later pair =
     let s0 = state g.S.Store c.args.conn.now in
     let e = c.in_err-later.field-0.0 in
     on_error c.from_residual.result e (ForCause s0 (state g.S.Store c.instruction.new.conn)) c.from_residual.ensures.1
-    (c.in_err-later.ensures.blame clean is_open has desk facts later pair.is_later)
+    (c.in_err-later.ensures.blame clean is_open has desk later pair.is_later)
+
+pub returns-in_err-mate-clause-look : goal.returns-in_err-mate-clause-look
+returns-in_err-mate-clause-look g c =
+    let s0 = state g.S.Store c.args.conn.now in
+    let s1 = state g.S.Store c.instruction.new.conn in
+    let s2 = state g.S.Store c.mate_of.new.conn in
+    look_handed c.in_ok-later.later s0 s1 s2 c.in_ok-later.ensures.look c.from_residual-in_err-mate.result c.in_err-mate.field-0.0 c.from_residual-in_err-mate.ensures.1 c.in_err-mate.ensures.look
 
 pub returns-in_err-mate-clause-blame : goal.returns-in_err-mate-clause-blame
-returns-in_err-mate-clause-blame g c clean is_open has desk facts mate earlier later pair =
+returns-in_err-mate-clause-blame g c clean is_open has desk mate earlier later pair =
     let s0 = state g.S.Store c.args.conn.now in
     let s1 = state g.S.Store c.instruction.new.conn in
     let s2 = state g.S.Store c.mate_of.new.conn in
@@ -72,7 +61,7 @@ returns-in_err-mate-clause-blame g c clean is_open has desk facts mate earlier l
     (λ clean2 open1 has1 same. c.in_err-mate.ensures.blame clean2 open1 has1 (subst IsDesk (sym same) desk) mate (ap (λ (d : Database). ((content_in d).standing c.args.number).mate) same ∙ pair.has_mate)) clean is_open has)
 
 pub returns-in_err-earlier-clause-blame : goal.returns-in_err-earlier-clause-blame
-returns-in_err-earlier-clause-blame g c clean is_open has desk facts mate earlier later pair =
+returns-in_err-earlier-clause-blame g c clean is_open has desk mate earlier later pair =
     let s0 = state g.S.Store c.args.conn.now in
     let s1 = state g.S.Store c.instruction.new.conn in
     let s2 = state g.S.Store c.mate_of.new.conn in
@@ -85,9 +74,8 @@ returns-in_err-earlier-clause-blame g c clean is_open has desk facts mate earlie
     let desk1 : IsDesk s1.now = subst IsDesk (sym same1.now) desk in
     let found : Some mate ≡ Some c.in_ok-mate.mate = sym (ap (λ (d : Database). ((content_in d).standing c.args.number).mate) same1.now ∙ pair.has_mate) ∙ c.in_ok-mate.ensures.value clean2 same1.is_open has1 desk1 in
     let is_mate : mate ≡ c.in_ok-mate.mate = cc in
-    let noted = c.in_ok-later.ensures.noted clean1 is_open has desk facts in
     on_error c.from_residual-in_err-earlier.result e (ForCause s0 s3) c.from_residual-in_err-earlier.ensures.1
     (caused_error e s0 s2 s3 (s2.now ≡ s0.now) (later_then s0 s1 s2 c.in_ok-later.ensures.look.later c.in_ok-mate.ensures.look.later) c.in_err-earlier.ensures.look.later
     (looked_then _ s0 s1 s2 (λ d. d ≡ s0.now) (looked _ s0 s1 (λ d. d ≡ s0.now) c.in_ok-later.ensures.look refl) c.in_ok-mate.ensures.look)
-    (λ clean3 open2 has2 same. c.in_err-earlier.ensures.blame clean3 open2 has2 (subst IsDesk (sym same) desk) (subst (λ (d : Database). AreFactsOf c.instruction.new.facts (content_in d).register) (sym same) noted) earlier
+    (λ clean3 open2 has2 same. c.in_err-earlier.ensures.blame clean3 open2 has2 (subst IsDesk (sym same) desk) earlier
     (ap (λ (d : Database). instruction_at (history_of (content_in d)) c.in_ok-mate.mate) same ∙ ap (instruction_at (history_of (content_in s0.now))) (sym is_mate) ∙ pair.is_earlier)) clean is_open has)

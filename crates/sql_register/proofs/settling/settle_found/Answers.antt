@@ -11,7 +11,7 @@ use Rattle.sql_tables.specs.Control.{mark_at}
 use Rattle.sql_tables.specs.Ends.{ForCause}
 use Rattle.sql_tables.proofs.CallLemmas.{later_then}
 use Rattle.sql_tables.proofs.ResultLemmas.{on_error}
-use Rattle.sql_register.specs.Pairs.{StandAlready}
+use Rattle.sql_register.specs.Pairs.{StandAlready, StandBoth}
 use Rattle.sql_register.proofs.CauseLemmas.{above, below, caused_error, marked, wrote_then}
 use Rattle.sql_register.proofs.PairCauses.{moved_stands}
 use Rattle.sql_register.proofs.settling.settle_found.Goals as goal
@@ -20,19 +20,19 @@ pub returns-clause-trial : goal.returns-clause-trial
 returns-clause-trial g c =
     let s0 = state g.S.Store c.args.conn.now in
     let s2 = state g.S.Store c.move_both.new.conn in
-    let s3 = state g.S.Store c.close.new.conn in
+    let s3 = state g.S.Store c.stand_both.new.conn in
     let s4 = state g.S.Store c.release.new.conn in
-    let t3 = write_marked c.in_ok-outcome.outcome (Ok c.in_ok-close.field-0) s0 s2 s3 c.in_ok-outcome.ensures.trial c.in_ok-close.ensures.write in
-    trial_as c.in_ok-release.field-0 c.in_ok-outcome.outcome s0 s4 _ (release_trial c.in_ok-close.field-0 (Ok c.in_ok-release.field-0) s0 s3 s4 t3 c.in_ok-release.ensures.ok c.in_ok-release.ensures.err c.in_ok-release.ensures.why c.in_ok-release.ensures.opened c.in_ok-release.ensures.later)
+    let t3 = write_marked c.in_ok-outcome.outcome (Ok c.in_ok-stand_both.field-0) s0 s2 s3 c.in_ok-outcome.ensures.trial c.in_ok-stand_both.ensures.write in
+    trial_as c.in_ok-release.field-0 c.in_ok-outcome.outcome s0 s4 _ (release_trial c.in_ok-stand_both.field-0 (Ok c.in_ok-release.field-0) s0 s3 s4 t3 c.in_ok-release.ensures.ok c.in_ok-release.ensures.err c.in_ok-release.ensures.why c.in_ok-release.ensures.opened c.in_ok-release.ensures.later)
 
 pub returns-clause-changed : goal.returns-clause-changed
 returns-clause-changed g c clean is_open has desk day can pair inside none =
     let s0 = state g.S.Store c.args.conn.now in
     let s2 = state g.S.Store c.move_both.new.conn in
-    let s3 = state g.S.Store c.close.new.conn in
+    let s3 = state g.S.Store c.stand_both.new.conn in
     let s4 = state g.S.Store c.release.new.conn in
     let clean3 : HasCleanDisk s3 = omega (arith, clean, c.in_ok-release.ensures.later.clean) in
-    let clean2 : HasCleanDisk s2 = omega (arith, clean3, c.in_ok-close.ensures.write.later.clean) in
+    let clean2 : HasCleanDisk s2 = omega (arith, clean3, c.in_ok-stand_both.ensures.write.later.clean) in
     let p = c.args.pair.now in
     let content = content_in s0.now in
     let matched = triable content p.mate p.number day p.earlier p.later can pair in
@@ -40,10 +40,10 @@ returns-clause-changed g c clean is_open has desk day can pair inside none =
     let moves = c.in_ok-outcome.ensures.changed clean2 is_open has desk.amounts fits inside none in
     let marked2 = c.in_ok-outcome.ensures.trial.ok clean2 is_open has inside none in
     let moved = moved_desk s0.now s2.now p.mate p.number p.earlier p.later c.in_ok-outcome.outcome desk matched moves marked2.schema in
-    let closes = c.in_ok-close.ensures.changed clean3 marked2.is_open marked2.schema moved.desk.standings moved.desk.due_rows in
-    let stays3 = c.in_ok-close.ensures.write.ok clean3 marked2.is_open marked2.schema in
+    let stood = subst (λ how. StandBoth s2.now s3.now p.mate p.number how) c.state_then.ensures.same (c.in_ok-stand_both.ensures.changed clean3 marked2.is_open marked2.schema moved.desk.standings) in
+    let stays3 = c.in_ok-stand_both.ensures.write.ok clean3 marked2.is_open marked2.schema in
     let releases = c.in_ok-release.ensures.ok clean stays3.is_open stays3.schema s0.now (stays3.marks ∙ marked2.marks) in
-    let all = tried s0.now s2.now p.mate p.number p.earlier p.later c.in_ok-outcome.outcome desk matched moves marked2.schema s3.now stays3.schema closes in
+    let all = tried s0.now s2.now p.mate p.number p.earlier p.later c.in_ok-outcome.outcome desk matched moves marked2.schema s3.now stays3.schema stood in
     subst (λ (d : Database). IsDesk d × TriesPair content p.number c.in_ok-outcome.outcome (content_in d)) (sym releases.now) all
 
 pub returns-in_err-in_order-clause-blame : goal.returns-in_err-in_order-clause-blame
@@ -61,33 +61,33 @@ returns-in_err-outcome-clause-blame g c clean is_open has desk day can pair insi
     on_error c.from_residual-in_err-outcome.result e (ForCause s0 (state g.S.Store c.move_both.new.conn)) c.from_residual-in_err-outcome.ensures.1
     (c.in_err-outcome.ensures.blame clean is_open has desk.amounts (sides_fit (content_in s0.now) p.mate p.number day p.earlier p.later can pair) inside none)
 
-pub returns-in_err-close-clause-blame : goal.returns-in_err-close-clause-blame
-returns-in_err-close-clause-blame g c clean is_open has desk day can pair inside none =
+pub returns-in_err-stand_both-clause-blame : goal.returns-in_err-stand_both-clause-blame
+returns-in_err-stand_both-clause-blame g c clean is_open has desk day can pair inside none =
     let s0 = state g.S.Store c.args.conn.now in
     let s2 = state g.S.Store c.move_both.new.conn in
-    let s3 = state g.S.Store c.close.new.conn in
+    let s3 = state g.S.Store c.stand_both.new.conn in
     let p = c.args.pair.now in
     let content = content_in s0.now in
-    let e = c.in_err-close.field-0.0 in
+    let e = c.in_err-stand_both.field-0.0 in
     let matched = triable content p.mate p.number day p.earlier p.later can pair in
     let fits = sides_fit content p.mate p.number day p.earlier p.later can pair in
     let Asks = StandAlready s2.now p.mate p.number in
-    let clean2 : HasCleanDisk s2 = omega (arith, clean, c.in_err-close.ensures.write.later.clean) in
+    let clean2 : HasCleanDisk s2 = omega (arith, clean, c.in_err-stand_both.ensures.write.later.clean) in
     let moves = c.in_ok-outcome.ensures.changed clean2 is_open has desk.amounts fits inside none in
     let moved = marked c.in_ok-outcome.outcome s0 s2 Asks c.in_ok-outcome.ensures.trial inside none (λ clean1 open0 has0 mark.
     moved_stands s0.now s2.now p.mate p.number p.earlier p.later c.in_ok-outcome.outcome matched (moved_desk s0.now s2.now p.mate p.number p.earlier p.later c.in_ok-outcome.outcome desk matched moves mark.schema)) in
-    on_error c.from_residual-in_err-close.result e (ForCause s0 s3) c.from_residual-in_err-close.ensures.1
-    (caused_error e s0 s2 s3 Asks c.in_ok-outcome.ensures.trial.later c.in_err-close.ensures.write.later moved (λ clean3 open2 has2 it. c.in_err-close.ensures.blame clean3 open2 has2 it) clean is_open has)
+    on_error c.from_residual-in_err-stand_both.result e (ForCause s0 s3) c.from_residual-in_err-stand_both.ensures.1
+    (caused_error e s0 s2 s3 Asks c.in_ok-outcome.ensures.trial.later c.in_err-stand_both.ensures.write.later moved (λ clean3 open2 has2 it. c.in_err-stand_both.ensures.blame clean3 open2 has2 it) clean is_open has)
 
 pub returns-in_err-release-clause-blame : goal.returns-in_err-release-clause-blame
 returns-in_err-release-clause-blame g c clean is_open has desk day can pair inside none =
     let s0 = state g.S.Store c.args.conn.now in
     let s2 = state g.S.Store c.move_both.new.conn in
-    let s3 = state g.S.Store c.close.new.conn in
+    let s3 = state g.S.Store c.stand_both.new.conn in
     let s4 = state g.S.Store c.release.new.conn in
     let e = c.in_err-release.field-0.0 in
     let moved = marked c.in_ok-outcome.outcome s0 s2 (s2.marks ≡ mark_at s0.now ∷ []) c.in_ok-outcome.ensures.trial inside none (λ clean1 open0 has0 mark. mark.marks) in
-    let closed = wrote_then _ s0 s2 s3 (s2.marks ≡ mark_at s0.now ∷ []) (s3.marks ≡ mark_at s0.now ∷ []) moved c.in_ok-close.ensures.write (λ clean3 open2 has2 it. (c.in_ok-close.ensures.write.ok clean3 open2 has2).marks ∙ it) in
+    let closed = wrote_then _ s0 s2 s3 (s2.marks ≡ mark_at s0.now ∷ []) (s3.marks ≡ mark_at s0.now ∷ []) moved c.in_ok-stand_both.ensures.write (λ clean3 open2 has2 it. (c.in_ok-stand_both.ensures.write.ok clean3 open2 has2).marks ∙ it) in
     on_error c.from_residual-in_err-release.result e (ForCause s0 s4) c.from_residual-in_err-release.ensures.1
-    (caused_error e s0 s3 s4 (s3.marks ≡ mark_at s0.now ∷ []) (later_then s0 s2 s3 c.in_ok-outcome.ensures.trial.later c.in_ok-close.ensures.write.later) c.in_err-release.ensures.later closed
+    (caused_error e s0 s3 s4 (s3.marks ≡ mark_at s0.now ∷ []) (later_then s0 s2 s3 c.in_ok-outcome.ensures.trial.later c.in_ok-stand_both.ensures.write.later) c.in_err-release.ensures.later closed
     (λ clean4 open3 has3 it. c.in_err-release.ensures.blame clean4 open3 has3 s0.now it) clean is_open has)

@@ -9,7 +9,7 @@ pub returns-clause-changed : goal.returns-clause-changed
 returns-clause-changed g c clean is_open has desk can =
     let s0 = state g.S.Store c.args.conn.now in
     let s1 = state g.S.Store c.stand_both.new.conn in
-    wait_call s0.now s0 s1 c.args.earlier c.args.later c.args.lack c.stand_both.result desk can (c.stand_both.ensures.write.ok clean is_open has) (rw (sym c.state_then.ensures.same) (c.stand_both.ensures.changed clean is_open has desk.standings))
+    wait_call s0.now s0 s1 c.args.earlier c.args.later desk can c.args.lack c.stand_both.result (c.stand_both.ensures.write.ok clean is_open has) (rw (sym c.state_then.ensures.same) (c.stand_both.ensures.changed clean is_open has desk.standings))
 
 pub returns-in_err-in_order-clause-blame : goal.returns-in_err-in_order-clause-blame
 returns-in_err-in_order-clause-blame g c clean is_open has desk can =

@@ -4,7 +4,6 @@ use Rattle.std.proofs.lemmas.Int.{to_z_pos}
 use Rattle.sqlite.specs.Held.{state}
 use Rattle.sql_sent.proofs.TextLemmas.{insert_text, insert_edit}
 use Rattle.sql_tables.proofs.ResultLemmas.{on_done}
-use Rattle.sql_sent.proofs.RowLemmas.{count_to, count_below}
 use Rattle.sql_sent.proofs.InsertLemmas.{adds, message_params}
 use Rattle.sql_sent.proofs.CauseLemmas.{message_caused}
 use Rattle.sql_sent.proofs.messages.insert.Goals as goal
@@ -17,23 +16,20 @@ pub execute-requires : goal.execute-requires
 execute-requires g c = record { edit = insert_edit }
 
 pub returns-clause-added : goal.returns-clause-added
-returns-clause-added g c clean is_open has messages are number place =
+returns-clause-added g c clean is_open has messages are number =
     let m = c.args.message.now in
     let fits : m.about < 2 ^ 64 = omega arith in
     let few : length messages + 1 < 2 ^ 63 = omega (arith, number, c.requires) in
-    let own : count_to messages m.bic + 1 < 2 ^ 63 = omega (arith, count_below messages m.bic, few) in
     let short : m.mt < 2 ^ 63 = omega arith in
     let old = state g.S.Store c.args.conn.now in
     let new = state g.S.Store c.execute.new.conn in
-    let params = message_params (length messages + 1) (count_to messages m.bic + 1) m in
-    on_done insert_text params old new c.execute.result (λ count h. adds old new has messages m count are fits few h)
-    (rw (c.integer.ensures, c.as_bytes.ensures.bytes, c.integer-2.ensures, c.integer-3.ensures, c.from.ensures, c.integer-4.ensures, c.as_bytes-2.ensures, seen c.args.number (length messages + 1) number few, seen c.args.place (count_to messages m.bic + 1) place own, to_z_pos w64 m.mt short) at (c.execute.ensures.runs clean))
+    on_done insert_text (message_params (length messages + 1) m) old new c.execute.result (λ count h. adds old new has messages m count are fits few h)
+    (rw (c.integer.ensures, c.as_bytes.ensures.bytes, c.integer-2.ensures, c.from.ensures, c.integer-3.ensures, c.as_bytes-2.ensures, seen c.args.number (length messages + 1) number few, to_z_pos w64 m.mt short) at (c.execute.ensures.runs clean))
 
 pub returns-clause-blame : goal.returns-clause-blame
-returns-clause-blame g c clean is_open has messages are number place =
+returns-clause-blame g c clean is_open has messages are number =
     let m = c.args.message.now in
     let few : length messages + 1 < 2 ^ 63 = omega (arith, number, c.requires) in
-    let own : count_to messages m.bic + 1 < 2 ^ 63 = omega (arith, count_below messages m.bic, few) in
     let short : m.mt < 2 ^ 63 = omega arith in
     message_caused (state g.S.Store c.args.conn.now) (state g.S.Store c.execute.new.conn) has is_open (c.execute.ensures.obeyed is_open) messages m are c.execute.result
-    (rw (c.integer.ensures, c.as_bytes.ensures.bytes, c.integer-2.ensures, c.integer-3.ensures, c.from.ensures, c.integer-4.ensures, c.as_bytes-2.ensures, seen c.args.number (length messages + 1) number few, seen c.args.place (count_to messages m.bic + 1) place own, to_z_pos w64 m.mt short) at (c.execute.ensures.runs clean))
+    (rw (c.integer.ensures, c.as_bytes.ensures.bytes, c.integer-2.ensures, c.from.ensures, c.integer-3.ensures, c.as_bytes-2.ensures, seen c.args.number (length messages + 1) number few, to_z_pos w64 m.mt short) at (c.execute.ensures.runs clean))

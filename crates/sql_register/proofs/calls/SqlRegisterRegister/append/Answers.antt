@@ -1,13 +1,40 @@
-use Rattle.std.proofs.Common.{◌≡◌, OnOk, subst}
+use Rattle.std.proofs.Common.{◌≡◌, OnOk, ap, ◌∙◌, subst, sym, IsTrue, arith}
 use Rattle.sqlite.specs.Held.{state}
-use Rattle.desk_register.specs.Changes.{appended}
-use Rattle.desk_rules.specs.Content.{Content}
+use Rattle.sqlite.specs.State.{HasCleanDisk}
+use Rattle.desk_register.specs.Changes.{CanAppend, appended}
+use Rattle.desk_register.specs.View.{IsChange}
+use Rattle.sql_register.proofs.ChangeLemmas.{told_content, write_said}
 use Rattle.sql_register.specs.Content.{content_in}
+use Rattle.sql_register.specs.Kept.{Kept, shown}
+use Rattle.sql_register.proofs.KeptLemmas.{holds_changed}
+use Rattle.sql_register.proofs.ReadLemmas.{was_clean}
 use Rattle.sql_register.proofs.calls.SqlRegisterRegister.append.Goals as goal
 
+pub invariant_of-self : goal.invariant_of-self
+invariant_of-self g c =
+    holds_changed (state g.S.Store c.self.inside.conn) (state g.S.Store c.append.new.conn) c.self.inside.stage c.told.new.stage c.self.inside.limit
+    c.append.result c.told.result (appended c.args.entry c.args.reply (content_in (state g.S.Store c.self.inside.conn).now)) (ap (λ k. k.stage) c.self.view_is ∙ c.requires.stage) c.self.invariant c.append.ensures.write c.told.ensures
+    (λ clean is_open has desk. c.append.ensures.changed clean is_open has desk c.self.inside.limit
+    (subst (λ (k : Kept _). HasCleanDisk (state g.S.Store k.connection) → IsTrue (state g.S.Store k.connection).is_open → CanAppend k.room c.args.entry c.args.reply (content_in (state g.S.Store k.connection).now)) (sym c.self.view_is) c.requires.fits
+    (was_clean _ _ c.append.ensures.write.later clean) is_open))
+
 pub returns-clause-added : goal.returns-clause-added
-returns-clause-added g c = λ clean was_open.
-    let read = c.in_ok-count.ensures.read in
-    let clean1 = c.add_entry.ensures.change.later.honest clean in
-    subst (λ (content : Content). OnOk c.add_entry.result (content_in (state g.S.Store c.add_entry.new.self.connection).now ≡ appended c.args.entry c.args.reply content)) (read.same clean1 was_open)
-    (c.add_entry.ensures.added clean (read.ok.sure clean1 was_open))
+returns-clause-added g c =
+    subst (λ (k : Kept _). HasCleanDisk (state g.S.Store c.append.new.conn) → IsTrue (state g.S.Store k.connection).is_open
+    → OnOk c.told.result (content_in (state g.S.Store c.append.new.conn).now ≡ appended c.args.entry c.args.reply (content_in (state g.S.Store k.connection).now))) c.self.view_is
+    (told_content (state g.S.Store c.self.inside.conn) (state g.S.Store c.append.new.conn) c.self.inside.stage c.told.new.stage c.self.inside.limit
+    c.append.result c.told.result (appended c.args.entry c.args.reply (content_in (state g.S.Store c.self.inside.conn).now)) (ap (λ k. k.stage) c.self.view_is ∙ c.requires.stage) c.self.invariant.0 c.append.ensures.write c.told.ensures
+    (λ clean is_open has desk. c.append.ensures.changed clean is_open has desk c.self.inside.limit
+    (subst (λ (k : Kept _). HasCleanDisk (state g.S.Store k.connection) → IsTrue (state g.S.Store k.connection).is_open → CanAppend k.room c.args.entry c.args.reply (content_in (state g.S.Store k.connection).now)) (sym c.self.view_is) c.requires.fits
+    (was_clean _ _ c.append.ensures.write.later clean) is_open)))
+
+pub returns-clause-change : goal.returns-clause-change
+returns-clause-change g c =
+    let old = state g.S.Store c.self.inside.conn in
+    let new = state g.S.Store c.append.new.conn in
+    let begun = ap (λ k. k.stage) c.self.view_is ∙ c.requires.stage in
+    let can = subst (λ (k : Kept _). HasCleanDisk (state g.S.Store k.connection) → IsTrue (state g.S.Store k.connection).is_open → CanAppend k.room c.args.entry c.args.reply (content_in (state g.S.Store k.connection).now)) (sym c.self.view_is) c.requires.fits in
+    let was = was_clean old new c.append.ensures.write.later in
+    subst (λ (k : Kept _). IsChange c.told.result (shown (state g.S.Store k.connection) k.stage k.room) (shown new c.told.new.stage c.self.inside.limit)) c.self.view_is
+    (write_said old new c.self.inside.stage c.told.new.stage c.self.inside.limit c.append.result c.told.result begun c.self.invariant.0 c.self.invariant.1.unlimited c.append.ensures.write
+    (λ clean is_open has desk. c.append.ensures.blame clean is_open has desk c.self.inside.limit (let few = c.self.invariant.1.few in omega (arith, few)) (can (was clean) is_open)) c.told.ensures)

@@ -1,26 +1,21 @@
-use Rattle.std.proofs.Common.{arith, subst, sym}
+use Rattle.std.proofs.Common.{arith}
 use Rattle.sqlite.specs.Held.{state}
-use Rattle.sql_register.specs.Kept.{IsOpenDesk}
 use Rattle.sql_register.proofs.StageLemmas.{back_desk, failed_desk}
-use Rattle.sql_register.proofs.KnownLemmas.{bounded_later}
+use Rattle.sql_register.proofs.KeptLemmas.{bounded_later}
 use Rattle.sql_register.proofs.calls.SqlRegisterRegister.back.Goals as goal
 
 pub invariant_of-self-in-Err : goal.invariant_of-self-in-Err
 invariant_of-self-in-Err g c = (
-  λ clean is_open. subst (IsOpenDesk (state g.S.Store c.take_back.new.conn)) (sym c.fault_of.ensures.stage)
-      (failed_desk (state g.S.Store c.self.inside.conn) (state g.S.Store c.take_back.new.conn) c.self.inside.course.stage
-      (c.self.invariant.0 (omega (arith, clean, c.take_back.ensures.later.clean)) (c.take_back.ensures.opened clean is_open)) (c.in-Err.ensures.err clean is_open)),
+  λ clean is_open. failed_desk (state g.S.Store c.self.inside.conn) (state g.S.Store c.take_back.new.conn) c.self.inside.stage
+      (c.self.invariant.0 (omega (arith, clean, c.take_back.ensures.later.clean)) (c.take_back.ensures.opened clean is_open)) (c.in-Err.ensures.err clean is_open),
   bounded_later (state g.S.Store c.self.inside.conn) (state g.S.Store c.take_back.new.conn) c.self.inside.limit c.self.invariant.1 c.take_back.ensures.later,
-  λ clean is_open goes. c.fault_of.ensures.nothing _ _,
 )
 
 pub invariant_of-self : goal.invariant_of-self
 invariant_of-self g c = (
   λ clean is_open.
       let back = c.in-Ok.ensures.back clean in
-      subst (IsOpenDesk (state g.S.Store c.take_back.new.conn)) (sym c.taken_back.ensures.stage)
-      (back_desk (state g.S.Store c.self.inside.conn) (state g.S.Store c.take_back.new.conn) c.self.inside.course.stage
-      (c.self.invariant.0 (omega (arith, clean, c.take_back.ensures.later.clean)) back.was_open) back),
+      back_desk (state g.S.Store c.self.inside.conn) (state g.S.Store c.take_back.new.conn) c.self.inside.stage
+      (c.self.invariant.0 (omega (arith, clean, c.take_back.ensures.later.clean)) back.was_open) back,
   bounded_later (state g.S.Store c.self.inside.conn) (state g.S.Store c.take_back.new.conn) c.self.inside.limit c.self.invariant.1 c.take_back.ensures.later,
-  λ clean is_open goes. c.taken_back.ensures.nothing _ _,
 )

@@ -1,11 +1,10 @@
 use Rattle.std.proofs.Common.{rules, ap, subst, sym, ◌∙◌}
 use Rattle.std.specs.Prelude.{Err}
 use Rattle.sqlite.specs.Held.{state}
-use Rattle.sql_register.specs.Content.{content_in}
 use Rattle.sql_register.specs.Kept.{IsOpenDesk, Kept, shown}
 use Rattle.desk_register.specs.View.{Blames}
 use Rattle.sql_register.specs.Told.{fault_for}
-use Rattle.sql_register.proofs.KnownLemmas.{idle_goes, known_same, bounded_later}
+use Rattle.sql_register.proofs.KeptLemmas.{bounded_later}
 use Rattle.sql_register.proofs.ReadLemmas.{blames_told, was_clean}
 use Rattle.sql_register.proofs.StageLemmas.{begun_desk}
 use Rattle.sql_register.proofs.calls.SqlRegisterRegister.begin.Goals as goal
@@ -21,15 +20,10 @@ invariant_of-self g c =
           let desk = c.self.invariant.0 (was clean) was_open in
           begun_desk old new (subst (IsOpenDesk old) idle desk) (c.in-Ok.ensures.ok clean was_open desk.schema),
       bounded_later old new c.self.inside.limit c.self.invariant.1 c.begin.ensures.later,
-      λ clean is_open goes.
-          let was_open = c.begin.ensures.opened clean is_open in
-          let desk = c.self.invariant.0 (was clean) was_open in
-          known_same c.self.inside.course.known (content_in old.now) (content_in new.now) (ap content_in (c.in-Ok.ensures.ok clean was_open desk.schema).now)
-          (c.self.invariant.2 (was clean) was_open (idle_goes c.self.inside.course.stage idle)),
     )
 
 pub invariant_of-self-in-Err : goal.invariant_of-self-in-Err
-invariant_of-self-in-Err g c = (search rules, bounded_later (state g.S.Store c.self.inside.conn) (state g.S.Store c.begin.new.conn) c.self.inside.limit c.self.invariant.1 c.begin.ensures.later, λ clean is_open goes. c.fault_of.ensures.nothing _ _)
+invariant_of-self-in-Err g c = (search rules, bounded_later (state g.S.Store c.self.inside.conn) (state g.S.Store c.begin.new.conn) c.self.inside.limit c.self.invariant.1 c.begin.ensures.later)
 
 pub returns-in-Err-clause-blame : goal.returns-in-Err-clause-blame
 returns-in-Err-clause-blame g c =
@@ -37,7 +31,7 @@ returns-in-Err-clause-blame g c =
     let new = state g.S.Store c.begin.new.conn in
     let idle = ap (λ k. k.stage) c.self.view_is ∙ c.requires in
     let was = was_clean old new c.begin.ensures.later in
-    subst (λ f. Blames (Err f) (shown (state g.S.Store c.args.self.now.connection) c.args.self.now.stage c.args.self.now.room) (shown new c.fault_of.new.self.stage c.self.inside.limit)) (sym c.fault_of.ensures.which)
-    (subst (λ (k : Kept _). Blames (Err (fault_for c.in-Err.error)) (shown (state g.S.Store k.connection) k.stage k.room) (shown new c.fault_of.new.self.stage c.self.inside.limit)) c.self.view_is
-    (blames_told old new c.self.inside.course.stage c.fault_of.new.self.stage c.self.inside.limit c.in-Err.error c.self.invariant.0 c.begin.ensures.later c.self.invariant.1.unlimited
+    subst (λ f. Blames (Err f) (shown (state g.S.Store c.args.self.now.connection) c.args.self.now.stage c.args.self.now.room) (shown new c.self.inside.stage c.self.inside.limit)) (sym c.fault_of.ensures)
+    (subst (λ (k : Kept _). Blames (Err (fault_for c.in-Err.error)) (shown (state g.S.Store k.connection) k.stage k.room) (shown new c.self.inside.stage c.self.inside.limit)) c.self.view_is
+    (blames_told old new c.self.inside.stage c.self.inside.stage c.self.inside.limit c.in-Err.error c.self.invariant.0 c.begin.ensures.later c.self.invariant.1.unlimited
     (λ clean is_open has desk. c.in-Err.ensures.blame clean is_open has ((c.self.invariant.0 (was clean) is_open).closed idle))))

@@ -2,17 +2,17 @@ use Rattle.std.proofs.Common.{subst}
 use Rattle.sqlite.specs.Held.{state}
 use Rattle.desk_register.specs.View.{IsRead}
 use Rattle.sql_register.specs.Kept.{Kept, shown}
-use Rattle.sql_register.proofs.KnownLemmas.{holds_told}
+use Rattle.sql_register.proofs.KeptLemmas.{holds_told}
 use Rattle.sql_register.proofs.ReadLemmas.{read_told}
 use Rattle.sql_register.proofs.calls.SqlRegisterRegister.cash.Goals as goal
 
 pub returns-clause-read : goal.returns-clause-read
 returns-clause-read g c =
-    subst (λ (k : Kept _). IsRead c.told.result (shown (state g.S.Store k.connection) k.stage k.room) (shown (state g.S.Store c.cash.new.conn) c.told.new.self.stage c.self.inside.limit)) c.self.view_is
-    (read_told (state g.S.Store c.self.inside.conn) (state g.S.Store c.cash.new.conn) c.self.inside.course.stage c.told.new.self.stage c.self.inside.limit
-    c.cash.result c.told.result c.self.invariant.0 c.self.invariant.1.unlimited c.cash.ensures.look (λ clean is_open has desk. c.cash.ensures.blame clean is_open has desk) c.told.ensures.told)
+    subst (λ (k : Kept _). IsRead c.told.result (shown (state g.S.Store k.connection) k.stage k.room) (shown (state g.S.Store c.cash.new.conn) c.told.new.stage c.self.inside.limit)) c.self.view_is
+    (read_told (state g.S.Store c.self.inside.conn) (state g.S.Store c.cash.new.conn) c.self.inside.stage c.told.new.stage c.self.inside.limit
+    c.cash.result c.told.result c.self.invariant.0 c.self.invariant.1.unlimited c.cash.ensures.look (λ clean is_open has desk. c.cash.ensures.blame clean is_open has desk) c.told.ensures)
 
 pub invariant_of-self : goal.invariant_of-self
 invariant_of-self g c =
-    holds_told (state g.S.Store c.self.inside.conn) (state g.S.Store c.cash.new.conn) c.self.inside.course.stage c.told.new.self.stage c.self.inside.limit c.self.inside.course.known c.told.new.self.known
-    c.cash.result c.told.result c.self.invariant c.cash.ensures.look c.told.ensures.told c.told.ensures.known c.told.ensures.nothing
+    holds_told (state g.S.Store c.self.inside.conn) (state g.S.Store c.cash.new.conn) c.self.inside.stage c.told.new.stage c.self.inside.limit
+    c.cash.result c.told.result c.self.invariant c.cash.ensures.look c.told.ensures

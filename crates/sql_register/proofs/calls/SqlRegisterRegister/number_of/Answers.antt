@@ -3,17 +3,17 @@ use Rattle.sqlite.specs.Held.{state}
 use Rattle.desk_register.specs.View.{IsRead}
 use Rattle.sql_register.specs.Content.{content_in}
 use Rattle.sql_register.specs.Kept.{Kept, shown}
-use Rattle.sql_register.proofs.KnownLemmas.{holds_told}
+use Rattle.sql_register.proofs.KeptLemmas.{holds_told}
 use Rattle.sql_register.proofs.ReadLemmas.{read_told}
 use Rattle.sql_register.proofs.calls.SqlRegisterRegister.number_of.Goals as goal
 
 pub returns-clause-read : goal.returns-clause-read
 returns-clause-read g c =
-    subst (λ (k : Kept _). IsRead c.told.result (shown (state g.S.Store k.connection) k.stage k.room) (shown (state g.S.Store c.number_of.new.conn) c.told.new.self.stage c.self.inside.limit)) c.self.view_is
-    (read_told (state g.S.Store c.self.inside.conn) (state g.S.Store c.number_of.new.conn) c.self.inside.course.stage c.told.new.self.stage c.self.inside.limit
-    c.number_of.result c.told.result c.self.invariant.0 c.self.invariant.1.unlimited c.number_of.ensures.look (λ clean is_open has desk. c.number_of.ensures.blame clean is_open has (content_in (state g.S.Store c.self.inside.conn).now).register desk.entries) c.told.ensures.told)
+    subst (λ (k : Kept _). IsRead c.told.result (shown (state g.S.Store k.connection) k.stage k.room) (shown (state g.S.Store c.number_of.new.conn) c.told.new.stage c.self.inside.limit)) c.self.view_is
+    (read_told (state g.S.Store c.self.inside.conn) (state g.S.Store c.number_of.new.conn) c.self.inside.stage c.told.new.stage c.self.inside.limit
+    c.number_of.result c.told.result c.self.invariant.0 c.self.invariant.1.unlimited c.number_of.ensures.look (λ clean is_open has desk. c.number_of.ensures.blame clean is_open has (content_in (state g.S.Store c.self.inside.conn).now).register desk.entries) c.told.ensures)
 
 pub invariant_of-self : goal.invariant_of-self
 invariant_of-self g c =
-    holds_told (state g.S.Store c.self.inside.conn) (state g.S.Store c.number_of.new.conn) c.self.inside.course.stage c.told.new.self.stage c.self.inside.limit c.self.inside.course.known c.told.new.self.known
-    c.number_of.result c.told.result c.self.invariant c.number_of.ensures.look c.told.ensures.told c.told.ensures.known c.told.ensures.nothing
+    holds_told (state g.S.Store c.self.inside.conn) (state g.S.Store c.number_of.new.conn) c.self.inside.stage c.told.new.stage c.self.inside.limit
+    c.number_of.result c.told.result c.self.invariant c.number_of.ensures.look c.told.ensures

@@ -5,32 +5,26 @@ use Rattle.desk_register.specs.Changes.{CanPair, paired}
 use Rattle.desk_register.specs.View.{IsChange}
 use Rattle.sql_register.proofs.ChangeLemmas.{write_said}
 use Rattle.sql_register.specs.Content.{content_in}
-use Rattle.sql_register.specs.Facts.{AreFactsOf}
 use Rattle.sql_register.specs.Kept.{Kept, shown}
-use Rattle.sql_register.specs.Known.{IsKnownOf}
-use Rattle.sql_register.proofs.FactLemmas.{ok_then}
-use Rattle.sql_register.proofs.KnownLemmas.{holds_changed, begun_goes}
+use Rattle.sql_register.proofs.KeptLemmas.{holds_changed}
 use Rattle.sql_register.proofs.ReadLemmas.{was_clean}
 use Rattle.sql_register.proofs.calls.SqlRegisterRegister.pair.Goals as goal
 
 pub invariant_of-self : goal.invariant_of-self
 invariant_of-self g c =
-    holds_changed (state g.S.Store c.self.inside.conn) (state g.S.Store c.pair-paired.new.conn) c.self.inside.course.stage c.told.new.self.stage c.self.inside.limit c.self.inside.course.known c.told.new.self.known
-    c.pair-paired.result c.told.result (paired c.args.earlier c.args.later (content_in (state g.S.Store c.self.inside.conn).now)) (ap (λ k. k.stage) c.self.view_is ∙ c.requires.stage) c.self.invariant c.pair-paired.ensures.write c.told.ensures.told
-    (λ clean is_open has desk known. c.pair-paired.ensures.changed clean is_open has desk known.facts
+    holds_changed (state g.S.Store c.self.inside.conn) (state g.S.Store c.pair.new.conn) c.self.inside.stage c.told.new.stage c.self.inside.limit
+    c.pair.result c.told.result (paired c.args.earlier c.args.later (content_in (state g.S.Store c.self.inside.conn).now)) (ap (λ k. k.stage) c.self.view_is ∙ c.requires.stage) c.self.invariant c.pair.ensures.write c.told.ensures
+    (λ clean is_open has desk. c.pair.ensures.changed clean is_open has desk
     (subst (λ (k : Kept _). HasCleanDisk (state g.S.Store k.connection) → IsTrue (state g.S.Store k.connection).is_open → CanPair (content_in (state g.S.Store k.connection).now) c.args.earlier c.args.later) (sym c.self.view_is) c.requires.fits
-    (was_clean _ _ c.pair-paired.ensures.write.later clean) is_open))
-    c.told.ensures.nothing (λ clean is_open has desk known. ok_then (AreFactsOf c.pair-paired.new.facts (content_in (state g.S.Store c.self.inside.conn).now).register) (IsKnownOf c.told.new.self.known (content_in (state g.S.Store c.self.inside.conn).now).register (content_in (state g.S.Store c.self.inside.conn).now).sent) c.pair-paired.result (c.pair-paired.ensures.noted clean is_open has desk known.facts)
-    (λ facts. c.told.ensures.known _ _ (record { entries = known.entries; messages = known.messages; messages_to = known.messages_to; facts = facts })))
+    (was_clean _ _ c.pair.ensures.write.later clean) is_open))
 
 pub returns-clause-change : goal.returns-clause-change
 returns-clause-change g c =
     let old = state g.S.Store c.self.inside.conn in
-    let new = state g.S.Store c.pair-paired.new.conn in
+    let new = state g.S.Store c.pair.new.conn in
     let begun = ap (λ k. k.stage) c.self.view_is ∙ c.requires.stage in
     let can = subst (λ (k : Kept _). HasCleanDisk (state g.S.Store k.connection) → IsTrue (state g.S.Store k.connection).is_open → CanPair (content_in (state g.S.Store k.connection).now) c.args.earlier c.args.later) (sym c.self.view_is) c.requires.fits in
-    let known = λ (clean : HasCleanDisk new) (is_open : IsTrue old.is_open). c.self.invariant.2 (was_clean old new c.pair-paired.ensures.write.later clean) is_open (begun_goes c.self.inside.course.stage begun) in
-    let was = was_clean old new c.pair-paired.ensures.write.later in
-    subst (λ (k : Kept _). IsChange c.told.result (shown (state g.S.Store k.connection) k.stage k.room) (shown new c.told.new.self.stage c.self.inside.limit)) c.self.view_is
-    (write_said old new c.self.inside.course.stage c.told.new.self.stage c.self.inside.limit c.pair-paired.result c.told.result begun c.self.invariant.0 c.self.invariant.1.unlimited c.pair-paired.ensures.write
-    (λ clean is_open has desk. c.pair-paired.ensures.blame clean is_open has desk (known clean is_open).facts (can (was clean) is_open)) c.told.ensures.told)
+    let was = was_clean old new c.pair.ensures.write.later in
+    subst (λ (k : Kept _). IsChange c.told.result (shown (state g.S.Store k.connection) k.stage k.room) (shown new c.told.new.stage c.self.inside.limit)) c.self.view_is
+    (write_said old new c.self.inside.stage c.told.new.stage c.self.inside.limit c.pair.result c.told.result begun c.self.invariant.0 c.self.invariant.1.unlimited c.pair.ensures.write
+    (λ clean is_open has desk. c.pair.ensures.blame clean is_open has desk (can (was clean) is_open)) c.told.ensures)

@@ -1,28 +1,19 @@
-use Rattle.std.proofs.Common.{◌≡◌, ◌≢◌, IfOk, IsTrue, length, subst}
+use Rattle.std.proofs.Common.{subst}
 use Rattle.sqlite.specs.Held.{state}
-use Rattle.sqlite.specs.State.{HasCleanDisk}
-use Rattle.desk_register.specs.declared.register.Stage.TheVariants.{Failed}
 use Rattle.desk_register.specs.View.{IsRead}
 use Rattle.sql_register.specs.Content.{content_in}
 use Rattle.sql_register.specs.Kept.{Kept, shown}
-use Rattle.sql_register.proofs.KnownLemmas.{holds_found, value_found}
+use Rattle.sql_register.proofs.KeptLemmas.{holds_told}
 use Rattle.sql_register.proofs.ReadLemmas.{read_told}
 use Rattle.sql_register.proofs.calls.SqlRegisterRegister.sent_count.Goals as goal
 
 pub returns-clause-read : goal.returns-clause-read
 returns-clause-read g c =
-    subst (λ (k : Kept _). IsRead c.told_messages.result (shown (state g.S.Store k.connection) k.stage k.room) (shown (state g.S.Store c.count_messages.new.conn) c.told_messages.new.self.stage c.self.inside.limit)) c.self.view_is
-    (read_told (state g.S.Store c.self.inside.conn) (state g.S.Store c.count_messages.new.conn) c.self.inside.course.stage c.told_messages.new.self.stage c.self.inside.limit
-    c.count_messages.result c.told_messages.result c.self.invariant.0 c.self.invariant.1.unlimited c.count_messages.ensures.look (λ clean is_open has desk. c.count_messages.ensures.blame clean is_open has (content_in (state g.S.Store c.self.inside.conn).now).sent desk.sent) c.told_messages.ensures.told)
-
-pub returns-clause-value : goal.returns-clause-value
-returns-clause-value g c =
-    subst (λ (k : Kept _). HasCleanDisk (state g.S.Store c.count_messages.new.conn) → IsTrue (state g.S.Store k.connection).is_open → k.stage ≢ Failed → IfOk c.told_messages.result (λ r. r ≡ length (content_in (state g.S.Store k.connection).now).sent)) c.self.view_is
-    (value_found (state g.S.Store c.self.inside.conn) (state g.S.Store c.count_messages.new.conn) c.self.inside.course.stage c.told_messages.new.self.stage c.self.inside.limit c.self.inside.course.known c.count_messages.result c.told_messages.result (λ register sent r. r ≡ length sent) c.self.invariant c.count_messages.ensures.look c.told_messages.ensures.told
-    (λ clean is_open has desk known. c.count_messages.ensures.value clean is_open has _ desk.sent known.messages))
+    subst (λ (k : Kept _). IsRead c.told.result (shown (state g.S.Store k.connection) k.stage k.room) (shown (state g.S.Store c.sent_count.new.conn) c.told.new.stage c.self.inside.limit)) c.self.view_is
+    (read_told (state g.S.Store c.self.inside.conn) (state g.S.Store c.sent_count.new.conn) c.self.inside.stage c.told.new.stage c.self.inside.limit
+    c.sent_count.result c.told.result c.self.invariant.0 c.self.invariant.1.unlimited c.sent_count.ensures.look (λ clean is_open has desk. c.sent_count.ensures.blame clean is_open has (content_in (state g.S.Store c.self.inside.conn).now).sent desk.sent) c.told.ensures)
 
 pub invariant_of-self : goal.invariant_of-self
 invariant_of-self g c =
-    holds_found (state g.S.Store c.self.inside.conn) (state g.S.Store c.count_messages.new.conn) c.self.inside.course.stage c.told_messages.new.self.stage c.self.inside.limit c.self.inside.course.known c.count_messages.result c.told_messages.result (λ register sent r. r ≡ length sent) c.self.invariant c.count_messages.ensures.look c.told_messages.ensures.told
-    (λ clean is_open has desk known. c.count_messages.ensures.value clean is_open has _ desk.sent known.messages)
-    c.told_messages.new.self.known c.told_messages.ensures.known c.told_messages.ensures.nothing
+    holds_told (state g.S.Store c.self.inside.conn) (state g.S.Store c.sent_count.new.conn) c.self.inside.stage c.told.new.stage c.self.inside.limit
+    c.sent_count.result c.told.result c.self.invariant c.sent_count.ensures.look c.told.ensures

@@ -6,9 +6,8 @@ use Rattle.desk_register.specs.Told.{IsKnownAt}
 use Rattle.desk_register.specs.Changes.{CanSettle}
 use Rattle.desk_register.specs.View.{IsChange}
 use Rattle.sql_register.specs.Content.{content_in}
-use Rattle.sql_register.specs.Holds.{IsDesk}
 use Rattle.sql_register.specs.Kept.{Kept, shown}
-use Rattle.sql_register.proofs.KnownLemmas.{begun_goes, known_told, ok_first, tries_known, bounded_later}
+use Rattle.sql_register.proofs.KeptLemmas.{bounded_later, ok_first}
 use Rattle.sql_register.proofs.ReadLemmas.{was_clean}
 use Rattle.sql_register.proofs.ChangeLemmas.{tried_kept, trial_said}
 use Rattle.sql_register.proofs.calls.SqlRegisterToldRegister.settle_told.Goals as goal
@@ -17,23 +16,13 @@ pub invariant_of-self : goal.invariant_of-self
 invariant_of-self g c =
     let old = state g.S.Store c.self.inside.conn in
     let new = state g.S.Store c.settle_told.new.conn in
-    let pair = c.args.pair.now in
     let begun = ap (λ k. k.stage) c.self.view_is ∙ c.requires.stage in
-    let can = subst (λ (k : Kept _). HasCleanDisk (state g.S.Store k.connection) → IsTrue (state g.S.Store k.connection).is_open → CanSettle (content_in (state g.S.Store k.connection).now) pair.number (number_of c.args._day)) (sym c.self.view_is) c.requires.fits in
-    let is = subst (λ (k : Kept _). HasCleanDisk (state g.S.Store k.connection) → IsTrue (state g.S.Store k.connection).is_open → IsKnownAt (content_in (state g.S.Store k.connection).now) pair.number pair) (sym c.self.view_is) c.requires.known in
-    let was = was_clean old new c.settle_told.ensures.trial.later in
-    let known = λ (clean : HasCleanDisk new) (is_open : IsTrue old.is_open). c.self.invariant.2 (was clean) is_open (begun_goes c.self.inside.course.stage begun) in (
-      tried_kept old new c.self.inside.course.stage c.told.new.self.stage c.self.inside.limit c.settle_told.result c.told.result
-          begun c.self.invariant.0 c.settle_told.ensures.trial c.told.ensures.told
+    let can = subst (λ (k : Kept _). HasCleanDisk (state g.S.Store k.connection) → IsTrue (state g.S.Store k.connection).is_open → CanSettle (content_in (state g.S.Store k.connection).now) c.args.pair.now.number (number_of c.args._day)) (sym c.self.view_is) c.requires.fits in
+    let is = subst (λ (k : Kept _). HasCleanDisk (state g.S.Store k.connection) → IsTrue (state g.S.Store k.connection).is_open → IsKnownAt (content_in (state g.S.Store k.connection).now) c.args.pair.now.number c.args.pair.now) (sym c.self.view_is) c.requires.known in
+    let was = was_clean old new c.settle_told.ensures.trial.later in (
+      tried_kept old new c.self.inside.stage c.told.new.stage c.self.inside.limit c.settle_told.result c.told.result begun c.self.invariant.0 c.settle_told.ensures.trial c.told.ensures
           (λ clean is_open has desk inside none. ok_first _ _ c.settle_told.result (c.settle_told.ensures.changed clean is_open has desk (number_of c.args._day) (can (was clean) is_open) (is (was clean) is_open) inside none)),
       bounded_later old new c.self.inside.limit c.self.invariant.1 c.settle_told.ensures.trial.later,
-      known_told old new c.self.inside.course.stage c.told.new.self.stage c.self.inside.limit c.settle_told.result c.told.result c.told.ensures.told c.told.new.self.known
-          c.settle_told.ensures.trial.opened c.told.ensures.nothing
-          (λ clean is_open goes.
-          let desk = c.self.invariant.0 (was clean) is_open in
-          tries_known c.told.new.self.known (content_in old.now) (content_in new.now) pair.number (IsDesk new.now) c.settle_told.result
-          (c.settle_told.ensures.changed clean is_open desk.schema (desk.now goes) (number_of c.args._day) (can (was clean) is_open) (is (was clean) is_open) (desk.begun begun) (desk.unmarked begun))
-          (c.told.ensures.known _ _ (known clean is_open))),
     )
 
 pub returns-clause-change : goal.returns-clause-change
@@ -44,6 +33,6 @@ returns-clause-change g c =
     let can = subst (λ (k : Kept _). HasCleanDisk (state g.S.Store k.connection) → IsTrue (state g.S.Store k.connection).is_open → CanSettle (content_in (state g.S.Store k.connection).now) c.args.pair.now.number (number_of c.args._day)) (sym c.self.view_is) c.requires.fits in
     let is = subst (λ (k : Kept _). HasCleanDisk (state g.S.Store k.connection) → IsTrue (state g.S.Store k.connection).is_open → IsKnownAt (content_in (state g.S.Store k.connection).now) c.args.pair.now.number c.args.pair.now) (sym c.self.view_is) c.requires.known in
     let was = was_clean old new c.settle_told.ensures.trial.later in
-    subst (λ (k : Kept _). IsChange c.told.result (shown (state g.S.Store k.connection) k.stage k.room) (shown new c.told.new.self.stage c.self.inside.limit)) c.self.view_is
-    (trial_said old new c.self.inside.course.stage c.told.new.self.stage c.self.inside.limit c.settle_told.result c.told.result begun c.self.invariant.0 c.self.invariant.1.unlimited c.settle_told.ensures.trial
-    (λ clean is_open has desk inside none. c.settle_told.ensures.blame clean is_open has desk (number_of c.args._day) (can (was clean) is_open) (is (was clean) is_open) inside none) c.told.ensures.told)
+    subst (λ (k : Kept _). IsChange c.told.result (shown (state g.S.Store k.connection) k.stage k.room) (shown new c.told.new.stage c.self.inside.limit)) c.self.view_is
+    (trial_said old new c.self.inside.stage c.told.new.stage c.self.inside.limit c.settle_told.result c.told.result begun c.self.invariant.0 c.self.invariant.1.unlimited c.settle_told.ensures.trial
+    (λ clean is_open has desk inside none. c.settle_told.ensures.blame clean is_open has desk (number_of c.args._day) (can (was clean) is_open) (is (was clean) is_open) inside none) c.told.ensures)

@@ -1,0 +1,50 @@
+use Rattle.std.proofs.Common.{◌≡◌, ◌∙◌, ap, arith, subst}
+use Rattle.sqlite.specs.Held.{state}
+use Rattle.sqlite.specs.State.{HasCleanDisk}
+use Rattle.desk_rules.specs.Content.{history_of}
+use Rattle.desk_rules.specs.declared.history.standing.Standing.{Standing}
+use Rattle.desk_rules.specs.declared.history.entry.Instructed.{Instructed}
+use Rattle.sql_entries.specs.Opposites.{IsNextOpposite}
+use Rattle.sql_standings.specs.Standings.{standing_in}
+use Rattle.sql_tables.specs.Ends.{ForCause}
+use Rattle.sql_tables.proofs.ResultLemmas.{on_error}
+use Rattle.sql_register.specs.Content.{content_in}
+use Rattle.sql_register.specs.Walking.{is_unmatched}
+use Rattle.sql_register.proofs.WalkLemmas.{fails_then, look_handed, shown_then}
+use Rattle.sql_register.proofs.walking.candidate_above.Goals as goal
+
+pub returns-clause-value : goal.returns-clause-value
+returns-clause-value g c clean is_open has desk =
+    let s0 = state g.S.Store c.args.conn.now in
+    let s1 = state g.S.Store c.opposite_above.new.conn in
+    let s2 = state g.S.Store c.standing.new.conn in
+    let i : Instructed = record { sender = c.args.sender; instruction = c.args.instruction.now } in
+    let number = c.in-Some.number in
+    let looked = c.in_ok-standing.ensures.look in
+    let clean1 : HasCleanDisk s1 = omega (arith, clean, looked.later.clean) in
+    let stands = shown_then _ s0 s1 s2 c.in_ok-number.ensures.look (λ d. c.in_ok-standing.standing ≡ standing_in d number) looked.later
+    (λ clean2 open1 has1 desk1. c.in_ok-standing.ensures.value clean2 open1 has1 desk1.standings) clean is_open has desk in (
+      subst (IsNextOpposite (history_of (content_in s0.now)) i c.args.after) c.in-Some.is (c.in_ok-number.ensures.value clean1 is_open has desk),
+      c.is_unmatched.ensures ∙ ap (λ (s : Standing). is_unmatched s.state) stands,
+    )
+
+pub returns-in_err-standing-clause-blame : goal.returns-in_err-standing-clause-blame
+returns-in_err-standing-clause-blame g c clean is_open has desk =
+    let s0 = state g.S.Store c.args.conn.now in
+    let s1 = state g.S.Store c.opposite_above.new.conn in
+    let s2 = state g.S.Store c.standing.new.conn in
+    let e = c.in_err-standing.field-0.0 in
+    on_error c.from_residual-in_err-standing.result e (ForCause s0 s2) c.from_residual-in_err-standing.ensures.1
+    (fails_then _ s0 s1 s2 c.in_ok-number.ensures.look e (λ d. Unit {0}) c.in_err-standing.ensures.look.later
+    (λ clean2 open1 has1 desk1 u. c.in_err-standing.ensures.blame clean2 open1 has1 desk1.standings) clean is_open has desk tt)
+
+pub returns-in_default-clause-value : goal.returns-in_default-clause-value
+returns-in_default-clause-value g c clean is_open has desk =
+    let s0 = state g.S.Store c.args.conn.now in
+    let i : Instructed = record { sender = c.args.sender; instruction = c.args.instruction.now } in
+    subst (IsNextOpposite (history_of (content_in s0.now)) i c.args.after) c.in_default.is (c.in_ok-number.ensures.value clean is_open has desk)
+
+pub returns-in_err-standing-clause-look : goal.returns-in_err-standing-clause-look
+returns-in_err-standing-clause-look g c =
+    look_handed _ (state g.S.Store c.args.conn.now) (state g.S.Store c.opposite_above.new.conn) (state g.S.Store c.standing.new.conn) c.in_ok-number.ensures.look c.from_residual-in_err-standing.result c.in_err-standing.field-0.0
+    c.from_residual-in_err-standing.ensures.1 c.in_err-standing.ensures.look

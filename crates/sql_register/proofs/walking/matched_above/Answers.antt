@@ -1,0 +1,22 @@
+use Rattle.sqlite.specs.Held.{state}
+use Rattle.sql_standings.specs.Standings.{IsNextMatched}
+use Rattle.sql_tables.specs.Ends.{ForCause}
+use Rattle.sql_tables.proofs.ResultLemmas.{no_error, on_error}
+use Rattle.sql_register.proofs.WalkLemmas.{matched_within, on_same}
+use Rattle.sql_register.proofs.walking.matched_above.Goals as goal
+
+pub returns-in_err-found-clause-blame : goal.returns-in_err-found-clause-blame
+returns-in_err-found-clause-blame g c clean is_open has desk =
+    let s0 = state g.S.Store c.args.conn.now in
+    let e = c.in_err-found.field-0.0 in
+    on_error c.from_residual.result e (ForCause s0 (state g.S.Store c.next_matched.new.conn)) c.from_residual.ensures.1 (c.in_err-found.ensures.blame clean is_open has desk.standings)
+
+pub returns-clause-value : goal.returns-clause-value
+returns-clause-value g c clean is_open has desk =
+    on_same c.above.result c.in_ok-found.found (IsNextMatched (state g.S.Store c.args.conn.now).now c.args.after) c.above.ensures.same (c.in_ok-found.ensures.value clean is_open has desk.standings)
+
+pub returns-clause-blame : goal.returns-clause-blame
+returns-clause-blame g c clean is_open has desk =
+    let s0 = state g.S.Store c.args.conn.now in
+    no_error c.above.result (ForCause s0 (state g.S.Store c.next_matched.new.conn))
+    (c.above.ensures.all (matched_within s0.now desk c.args.after c.in_ok-found.found (c.in_ok-found.ensures.value clean is_open has desk.standings)))
