@@ -19,9 +19,9 @@ use Rattle.sql_amounts.specs.declared.key.AmountKey.{AmountKey}
 use Rattle.sql_amounts.specs.declared.key.AmountKey.TheVariants as keys
 use Rattle.sql_amounts.specs.Keys.{ledger_of, tree_of}
 use Rattle.sql_amounts.specs.Amounts.{AreAmounts, amount_at}
-use Rattle.audit_amounts.specs.Said.{HasAmounts, HasNoStranger}
+use Rattle.audit_amounts.specs.Said.{HasAmounts, HasNoStranger, HasReadable}
 use Rattle.audit_amounts.specs.Shown.{AreTrueTables, IsTrueTable}
-use Rattle.audit_amounts.specs.Recorded.{AreAllRecorded, AreHoldingsRecorded, IsCashRecorded, IsEntryRecorded, IsPaidRecorded, IsRecorded}
+use Rattle.audit_amounts.specs.Recorded.{AreAllRecorded, AreHoldingsRecorded, IsCashRecorded, IsEntryRecorded, IsPaidRecorded, IsRecorded, SaysAll}
 use Rattle.audit_amounts.proofs.RowLemmas.{IsSaidOrNought, said_or_nought}
 
 module _ (db : Database) (content : Content) where
@@ -163,3 +163,18 @@ module _ (db : Database) (content : Content) where
       each = λ ledger. (true_of trues ledger).each;
       said = said;
     }
+
+-- ---- and where they do, each part of them does
+
+pub tables_of : (db : Database) (content : Content) → HasAmounts db content → AreTrueTables db content
+tables_of db content it = record {
+  balance = of ledgers.Balance;
+  cash = of ledgers.Cash;
+  total = of ledgers.Total;
+}
+  where
+    of : (ledger : Ledger) → IsTrueTable db content ledger
+    of ledger = record { rows = it.amounts ledger; each = it.each ledger }
+
+pub says_all : (db : Database) (content : Content) → HasReadable content → HasAmounts db content → SaysAll db content
+says_all db content can it = record { amounts = it.amounts; each = it.said; readable = can }

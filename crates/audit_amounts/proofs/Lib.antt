@@ -1,5 +1,6 @@
 mod FormLemmas
+mod SaidLemmas
 mod TextLemmas
 mod RowLemmas
 mod EntryLemmas
-mod WalkLemmas
+pub mod WalkLemmas

@@ -1,5 +1,5 @@
 -- One step after another: what was found of the tables and of the register at a later step is so of the first.
-use Rattle.std.proofs.Common.{◌≡◌, ◌⊎◌, inl, inr, ℕ, suc, ◌+◌, ◌<◌, List, [], ◌∷◌, get_or, length, All, Bool, Option, Some, None, IfSome, IfOk, IsTrue, Result, Ok, Err, refl, sym, ap, subst, ◌∙◌, arith}
+use Rattle.std.proofs.Common.{◌≡◌, ◌⊎◌, inl, inr, ℕ, suc, ◌+◌, ◌<◌, ◌≤◌, List, [], ◌∷◌, get_or, length, All, Bool, Option, Some, None, is_some, true, false, not, IfSome, IfOk, IsTrue, Result, Ok, Err, refl, sym, ap, subst, ◌∙◌, arith}
 use Rattle.std.specs.List.{AllByRecursion}
 use Rattle.std.specs.Prelude.{slice_get}
 use Rattle.std.specs.Result.{IsErrAnd}
@@ -22,9 +22,11 @@ use Rattle.desk_rules.specs.declared.answers.reply.Kept.{Kept}
 use Rattle.desk_rules.specs.declared.history.entry.Entry.{Entry}
 use Rattle.desk_rules.specs.Content.{Content, history_of}
 use Rattle.desk_register.specs.declared.holding.Holding.{Holding}
-use Rattle.desk_register.specs.Looked.{IsHoldingAfter, IsLess}
+use Rattle.desk_register.specs.Looked.{IsHoldingAfter, IsLess, IsRegisteredAbove}
 use Rattle.desk_register.specs.View.{HasRead, IfTrusted, IsLater, IsRead, View}
 use Rattle.desk_register.proofs.CaseLemmas.{same_bytes}
+use Rattle.desk_holdings.specs.Holdings.{HoldsRegistered}
+use Rattle.desk_holdings.proofs.AboveLemmas.{fewer, left_above, listed_is_left}
 use Rattle.sql_tables.specs.Ends.{HasLooked, IfSound, IsLook, IsSame}
 use Rattle.sql_tables.specs.Ends.{IsLater as IsLaterState}
 use Rattle.sql_tables.specs.Schema.{desk_schema}
@@ -37,7 +39,7 @@ use Rattle.desk_register.proofs.ReadLemmas.{read_more, read_then}
 use Rattle.audit_amounts.specs.Shown.{AreTrueTables, IsTrueTable}
 use Rattle.audit_amounts.specs.Said.{HasAmounts, HasNoStranger}
 use Rattle.audit_amounts.proofs.EntryLemmas.{has_all}
-use Rattle.audit_amounts.specs.Recorded.{AreAllRecorded, AreFirstRecorded, AreHoldingsRecorded, AreRecordedTo, IsCashRecorded, IsEntryRecorded, IsNumberRecorded, IsPaidRecorded, IsRecorded}
+use Rattle.audit_amounts.specs.Recorded.{AreAllRecorded, AreFirstRecorded, AreHoldingsRecorded, AreRecordedTo, IsCashRecorded, IsEntryRecorded, IsNumberRecorded, IsPaidRecorded, IsRecorded, SaysAll}
 
 module _ (s0 s1 s2 : State) (v0 v1 v2 : View) (later : IsLaterState s1 s2) (on : IsLater v1 v2) where
   was : HasCleanDisk s2 → HasCleanDisk s1
@@ -66,6 +68,10 @@ module _ (s0 s1 s2 : State) (v0 v1 v2 : View) (looked : HasLooked s0 s1) (read :
     kept s0 s1 s2 v0 v1 v2 later on (F s0.now v0.content) one clean is_open has honest sure,
     moved s0 s1 s2 v0 v1 v2 later on G looked read two clean is_open has honest sure,
   )
+
+  -- what a step would have found, had what is asked been so at first
+  pub found_so : {X : Type 0} (F : Database → Content → Type 0) → Found s1 s2 v1 v2 (F s1.now v1.content → X) → Found s0 s2 v0 v2 (F s0.now v0.content → X)
+  found_so {X} F found = moved s0 s1 s2 v0 v1 v2 later on (λ db content. F db content → X) looked read found
 
 -- three steps
 module _ (s0 s1 s2 s3 : State) (v0 v1 v2 v3 : View) (look1 : HasLooked s0 s1) (read1 : HasRead v0 v1) (look2 : HasLooked s1 s2) (read2 : HasRead v1 v2) (later : IsLaterState s2 s3) (on : IsLater v2 v3) where
@@ -112,7 +118,32 @@ module _ (db : Database) (content : Content) (account : List ℕ) where
     pub no_more : IsHoldingAfter content account last None → AreHoldingsRecorded db content account
     no_more none = record { each = λ isin some. elim (so.each isin some) [ inl is ↦ is | inr above ↦ absurd (none isin (some, above)) ] }
 
+-- ---- of no more securities than there are entries does it hold some
+
+module _ (content : Content) (account : List ℕ) (last : Option (List ℕ)) (holding : Holding) (known : HoldsRegistered content account) (next : IsHoldingAfter content account last (Some holding)) where
+  listed : IsRegisteredAbove (history_of content) last holding.isin
+  listed = (known.each holding.isin next.0.0, next.0.1)
+
+  pub fewer_left : (told : ℕ) → told + left_above (history_of content) last ≤ length (history_of content) → told + 1 + left_above (history_of content) (Some holding.isin) ≤ length (history_of content)
+  fewer_left told few = (let less = fewer (history_of content) last holding.isin listed in omega (arith, less, few))
+
+  pub none_further : (told : ℕ) → told + left_above (history_of content) last ≤ length (history_of content) → length (history_of content) ≤ told → ⊥
+  none_further told few all = (let some = listed_is_left (history_of content) last holding.isin listed in omega (arith, some, few, all))
+
+-- so behind as many as there are entries there is none
+pub none_beyond : (content : Content) (account : List ℕ) (last : Option (List ℕ)) (beyond : Option Holding) (told : ℕ) → HoldsRegistered content account → IsHoldingAfter content account last beyond
+    → told + left_above (history_of content) last ≤ length (history_of content) → length (history_of content) ≤ told → is_some beyond ≡ false
+none_beyond content account last None told known next few all = refl
+none_beyond content account last (Some holding) told known next few all = absurd (none_further content account last holding known next told few all)
+
+pub is_so : (b : Bool) → not b ≡ false → b ≡ true
+is_so true is = refl
+is_so false is = cc
+
 -- ---- entry by entry
+
+pub as_many : (content : Content) (count : ℕ) → count ≡ length content.register → length (history_of content) ≤ count
+as_many content count is = (let size = length-map content.register (λ (kept : Kept). kept.entry) in omega (arith, size, is))
 
 module _ (db : Database) (content : Content) where
   pub none_first : AreFirstRecorded db content 0

@@ -10,12 +10,18 @@ use Rattle.desk_rules.specs.History.{entry_at}
 use Rattle.desk_register.specs.Looked.{IsAboveText}
 use Rattle.sql_amounts.specs.declared.key.AmountKey.{AmountKey}
 use Rattle.sql_amounts.specs.declared.key.AmountKey.TheVariants.{Balance, Cash, Security, Currency}
-use Rattle.sql_amounts.specs.Amounts.{amount_at}
-use Rattle.audit_amounts.specs.Said.{IsSaid}
+use Rattle.sql_amounts.specs.Amounts.{AreAmounts, amount_at}
+use Rattle.audit_amounts.specs.Said.{HasReadable, IsSaid}
 
 -- the tables say what a content has under a key
 abbrev pub IsRecorded : Database → Content → AmountKey → Type 0
 IsRecorded db content key = IsSaid content key (amount_at db key)
+
+-- so they do under every key, and what the content has can be read
+pub record SaysAll (db : Database) (content : Content) : Type 0 where
+  pub amounts : AreAmounts db
+  pub each : (key : AmountKey) → IsRecorded db content key
+  pub readable : HasReadable content
 
 -- so it is of all that an account holds
 pub record AreHoldingsRecorded (db : Database) (content : Content) (account : List ℕ) : Type 0 where

@@ -1,13 +1,17 @@
 -- What it means that the tables of amounts say what a content has.
-use Rattle.std.specs.Prelude.{◌≡◌, ◌⊎◌, ℕ, ◌+◌, false, List, Option, None, Some, unwrap_or}
+use Rattle.std.specs.Prelude.{◌≡◌, ◌⊎◌, ⊤, ℕ, ◌+◌, ◌<◌, false, List, Option, None, Some, unwrap_or}
 use Rattle.std.specs.List.{AllByRecursion}
 use Rattle.sqlite.specs.Effect.{Database}
 use Rattle.sqlite.specs.Order.{Row}
 use Rattle.desk_codes.specs.declared.currency.Ccy.{Ccy}
+use Rattle.desk_codes.specs.Account.{IsAccount}
+use Rattle.desk_codes.specs.Bic.{IsBic}
+use Rattle.desk_codes.specs.CheckDigit.{IsIsin}
 use Rattle.desk_rules.specs.Balances.{issued, redeemed}
 use Rattle.desk_rules.specs.Content.{Content, history_of}
 use Rattle.desk_rules.specs.Facts.{is_participant, owner_of}
 use Rattle.desk_register.specs.Looked.{IsPaid}
+use Rattle.desk_holdings.specs.Holdings.{HoldsRegistered}
 use Rattle.sql_amounts.specs.declared.key.Ledger.{Ledger}
 use Rattle.sql_amounts.specs.declared.key.AmountKey.{AmountKey}
 use Rattle.sql_amounts.specs.declared.key.AmountKey.TheVariants.{Security, Currency}
@@ -48,3 +52,16 @@ pub record HasAmounts (db : Database) (content : Content) : Type 0 where
 pub record HasNoStranger (content : Content) : Type 0 where
   pub holds : (account isin : List ℕ) → owner_of (history_of content) account ≡ None → content.position account isin ≡ 0
   pub pays : (bic : List ℕ) (ccy : Ccy) → is_participant (history_of content) bic ≡ false → content.cash bic ccy ≡ 0
+
+-- the texts of a key are codes
+abbrev pub IsReadable : AmountKey → Type 0
+IsReadable (keys.Balance account isin) = IsAccount account × IsIsin isin
+IsReadable (keys.Cash bic ccy) = IsBic bic
+IsReadable (Security isin) = IsIsin isin
+IsReadable (Currency ccy) = ⊤
+
+-- What a content has some of it has under codes, and an account holds none but registered securities: so it is where the
+-- content is that of accepted entries, each of them well formed.
+pub record HasReadable (content : Content) : Type 0 where
+  pub key : (key : AmountKey) (amount : ℕ) → 0 < amount → IsSaid content key (Some amount) → IsReadable key
+  pub registered : (account : List ℕ) → HoldsRegistered content account

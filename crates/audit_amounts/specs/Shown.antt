@@ -1,5 +1,5 @@
 -- The rows that a query shows of a table of amounts. Only private contracts and proofs speak of them.
-use Rattle.std.specs.Prelude.{◌≡◌, ℕ, ◌<◌, ◌^◌, pos, List, [], ◌∷◌, codes}
+use Rattle.std.specs.Prelude.{◌≡◌, ◌⊎◌, ℕ, ◌<◌, ◌^◌, pos, List, [], ◌∷◌, length, Some, codes}
 use Rattle.std.specs.List.{AllByRecursion}
 use Rattle.sqlite.specs.declared.types.Value.TheVariants.{Int, Text as Words}
 use Rattle.sqlite.specs.Effect.{Database}
@@ -10,7 +10,7 @@ use Rattle.sql_amounts.specs.declared.key.Ledger.TheVariants.{Balance, Cash, Tot
 use Rattle.sql_amounts.specs.declared.key.AmountKey.{AmountKey}
 use Rattle.sql_amounts.specs.Amounts.{AreAmountRows, text_in}
 use Rattle.sql_amounts.specs.Keys.{ledger_of, texts_of, tree_of}
-use Rattle.audit_amounts.specs.Said.{IsTrueOf, IsTrueRow}
+use Rattle.audit_amounts.specs.Said.{IsReadable, IsSaid, IsTrueOf, IsTrueRow}
 
 -- the query of all rows
 abbrev pub all_text : Ledger → List ℕ
@@ -34,6 +34,13 @@ pub record ShowsTrue (content : Content) (ledger : Ledger) (row : Row) : Type 0 
   pub amount_is : column row 2 ≡ Int (pos amount)
   pub small : amount < 2 ^ 63
   pub is_true : IsTrueOf content ledger (text_in (column row 0), text_in (column row 1)) amount
+
+-- and what it says it says under a key of codes
+pub record ShowsReadable (content : Content) (ledger : Ledger) (row : Row) : Type 0 where
+  pub amount : ℕ
+  pub amount_is : column row 2 ≡ Int (pos amount)
+  pub size : length row ≡ 3
+  pub is_true : (amount ≡ 0) ⊎ ((key : AmountKey) × ShowsKey ledger row key × IsReadable key × IsSaid content key (Some amount))
 
 -- a table is well formed, and each of its rows says nothing, or what a content has
 pub record IsTrueTable (db : Database) (content : Content) (ledger : Ledger) : Type 0 where

@@ -6,7 +6,7 @@ ghost use Rattle.sql_tables.specs.Schema.{desk_schema};
 ghost use Rattle.sql_opening.specs.Forms.{AreAllFormed};
 ghost use Rattle.sql_opening.specs.Order.{AreInOrder};
 ghost use Rattle.audit_rows.specs.Audits.{Audits, Consults};
-ghost use Rattle.audit_amounts.specs.Said.{HasAmounts, HasNoStranger};
+ghost use Rattle.audit_amounts.specs.Said.{HasAmounts, HasNoStranger, HasReadable};
 
 use crate::recorded::{are_entries_recorded, is_paid_recorded};
 use crate::table::are_true_tables;
@@ -26,6 +26,8 @@ pub fn has_amounts<S: Alter, R: Register>(
     ensures says { Soundly S.Store conn.old conn.new (IfTrusted (R.view register.old) (R.view register.new)
         (AreInOrder desk_schema (tables S.Store conn.old).trees → AreAllFormed (tables S.Store conn.old).trees → HasNoStranger (R.view register.old).content
         → IfOk result (λ so. IsTrue so → HasAmounts (tables S.Store conn.old) (R.view register.old).content))) }
+    ensures exact { Soundly S.Store conn.old conn.new (IfTrusted (R.view register.old) (R.view register.new)
+        (HasReadable (R.view register.old).content → HasAmounts (tables S.Store conn.old) (R.view register.old).content → IfOk result (λ so. IsTrue so))) }
     ensures look { Audits S.Store conn.old conn.new result }
     ensures read { Consults result (R.view register.old) (R.view register.new) }
 {

@@ -1,10 +1,11 @@
 //! What a register has, beside what is recorded: key by key, and entry by entry.
-ghost use Rattle.std.specs.Prelude.{◌≡◌, All, IsTrue, IfOk};
+ghost use Rattle.std.specs.Prelude.{◌≡◌, ◌≤◌, length, All, IsTrue, IfOk};
+ghost use Rattle.desk_rules.specs.Content.{history_of};
 ghost use Rattle.desk_register.specs.View.{IfTrusted};
 ghost use Rattle.sql_amounts.specs.Amounts.{AreAmounts};
 ghost use Rattle.sql_tables.specs.Calls.{Soundly, tables};
 ghost use Rattle.audit_rows.specs.Audits.{Audits, Consults};
-ghost use Rattle.audit_amounts.specs.Recorded.{AreAllRecorded, AreHoldingsRecorded, IsCashRecorded, IsEntryRecorded, IsNumberRecorded, IsPaidRecorded, IsRecorded};
+ghost use Rattle.audit_amounts.specs.Recorded.{AreAllRecorded, AreHoldingsRecorded, IsCashRecorded, IsEntryRecorded, IsNumberRecorded, IsPaidRecorded, IsRecorded, SaysAll};
 
 use crate::said::is_said;
 use audit_rows::AuditFault;
@@ -25,6 +26,8 @@ fn is_recorded<S: Alter, R: Register>(
     requires stage { (R.view register.old).stage ≡ Stage.Idle }
     ensures says { Soundly S.Store conn.old conn.new (IfTrusted (R.view register.old) (R.view register.new) (AreAmounts (tables S.Store conn.old)
         → IfOk result (λ so. IsTrue so → IsRecorded (tables S.Store conn.old) (R.view register.old).content key.now))) }
+    ensures exact { Soundly S.Store conn.old conn.new (IfTrusted (R.view register.old) (R.view register.new)
+        (SaysAll (tables S.Store conn.old) (R.view register.old).content → IfOk result (λ so. IsTrue so))) }
     ensures look { Audits S.Store conn.old conn.new result }
     ensures read { Consults result (R.view register.old) (R.view register.new) }
 {
@@ -44,6 +47,8 @@ fn are_holdings_recorded<S: Alter, R: Register>(
     requires stage { (R.view register.old).stage ≡ Stage.Idle }
     ensures says { Soundly S.Store conn.old conn.new (IfTrusted (R.view register.old) (R.view register.new) (AreAmounts (tables S.Store conn.old)
         → IfOk result (λ so. IsTrue so → AreHoldingsRecorded (tables S.Store conn.old) (R.view register.old).content account))) }
+    ensures exact { Soundly S.Store conn.old conn.new (IfTrusted (R.view register.old) (R.view register.new)
+        (SaysAll (tables S.Store conn.old) (R.view register.old).content → length (history_of (R.view register.old).content) ≤ count → IfOk result (λ so. IsTrue so))) }
     ensures look { Audits S.Store conn.old conn.new result }
     ensures read { Consults result (R.view register.old) (R.view register.new) }
 {
@@ -77,6 +82,8 @@ fn are_cash_recorded<S: Alter, R: Register>(
     requires stage { (R.view register.old).stage ≡ Stage.Idle }
     ensures says { Soundly S.Store conn.old conn.new (IfTrusted (R.view register.old) (R.view register.new) (AreAmounts (tables S.Store conn.old)
         → IfOk result (λ so. IsTrue so → All (λ ccy. IsRecorded (tables S.Store conn.old) (R.view register.old).content (AmountKey.Cash bic ccy)) ccys.now))) }
+    ensures exact { Soundly S.Store conn.old conn.new (IfTrusted (R.view register.old) (R.view register.new)
+        (SaysAll (tables S.Store conn.old) (R.view register.old).content → IfOk result (λ so. IsTrue so))) }
     ensures look { Audits S.Store conn.old conn.new result }
     ensures read { Consults result (R.view register.old) (R.view register.new) }
 {
@@ -99,6 +106,8 @@ fn is_cash_recorded<S: Alter, R: Register>(
     requires stage { (R.view register.old).stage ≡ Stage.Idle }
     ensures says { Soundly S.Store conn.old conn.new (IfTrusted (R.view register.old) (R.view register.new) (AreAmounts (tables S.Store conn.old)
         → IfOk result (λ so. IsTrue so → IsCashRecorded (tables S.Store conn.old) (R.view register.old).content bic))) }
+    ensures exact { Soundly S.Store conn.old conn.new (IfTrusted (R.view register.old) (R.view register.new)
+        (SaysAll (tables S.Store conn.old) (R.view register.old).content → IfOk result (λ so. IsTrue so))) }
     ensures look { Audits S.Store conn.old conn.new result }
     ensures read { Consults result (R.view register.old) (R.view register.new) }
 {
@@ -115,6 +124,8 @@ fn are_paid_recorded<S: Alter, R: Register>(
     requires stage { (R.view register.old).stage ≡ Stage.Idle }
     ensures says { Soundly S.Store conn.old conn.new (IfTrusted (R.view register.old) (R.view register.new) (AreAmounts (tables S.Store conn.old)
         → IfOk result (λ so. IsTrue so → All (λ ccy. IsRecorded (tables S.Store conn.old) (R.view register.old).content (AmountKey.Currency ccy)) ccys.now))) }
+    ensures exact { Soundly S.Store conn.old conn.new (IfTrusted (R.view register.old) (R.view register.new)
+        (SaysAll (tables S.Store conn.old) (R.view register.old).content → IfOk result (λ so. IsTrue so))) }
     ensures look { Audits S.Store conn.old conn.new result }
     ensures read { Consults result (R.view register.old) (R.view register.new) }
 {
@@ -136,6 +147,8 @@ pub fn is_paid_recorded<S: Alter, R: Register>(
     requires stage { (R.view register.old).stage ≡ Stage.Idle }
     ensures says { Soundly S.Store conn.old conn.new (IfTrusted (R.view register.old) (R.view register.new) (AreAmounts (tables S.Store conn.old)
         → IfOk result (λ so. IsTrue so → IsPaidRecorded (tables S.Store conn.old) (R.view register.old).content))) }
+    ensures exact { Soundly S.Store conn.old conn.new (IfTrusted (R.view register.old) (R.view register.new)
+        (SaysAll (tables S.Store conn.old) (R.view register.old).content → IfOk result (λ so. IsTrue so))) }
     ensures look { Audits S.Store conn.old conn.new result }
     ensures read { Consults result (R.view register.old) (R.view register.new) }
 {
@@ -152,6 +165,8 @@ fn is_outstanding_recorded<S: Alter, R: Register>(
     requires stage { (R.view register.old).stage ≡ Stage.Idle }
     ensures says { Soundly S.Store conn.old conn.new (IfTrusted (R.view register.old) (R.view register.new) (AreAmounts (tables S.Store conn.old)
         → IfOk result (λ so. IsTrue so → IsRecorded (tables S.Store conn.old) (R.view register.old).content (AmountKey.Security movement.now.isin)))) }
+    ensures exact { Soundly S.Store conn.old conn.new (IfTrusted (R.view register.old) (R.view register.new)
+        (SaysAll (tables S.Store conn.old) (R.view register.old).content → IfOk result (λ so. IsTrue so))) }
     ensures look { Audits S.Store conn.old conn.new result }
     ensures read { Consults result (R.view register.old) (R.view register.new) }
 {
@@ -169,6 +184,8 @@ fn is_entry_recorded<S: Alter, R: Register>(
     requires stage { (R.view register.old).stage ≡ Stage.Idle }
     ensures says { Soundly S.Store conn.old conn.new (IfTrusted (R.view register.old) (R.view register.new) (AreAmounts (tables S.Store conn.old)
         → IfOk result (λ so. IsTrue so → IsEntryRecorded (tables S.Store conn.old) (R.view register.old).content entry.now))) }
+    ensures exact { Soundly S.Store conn.old conn.new (IfTrusted (R.view register.old) (R.view register.new)
+        (SaysAll (tables S.Store conn.old) (R.view register.old).content → length (history_of (R.view register.old).content) ≤ count → IfOk result (λ so. IsTrue so))) }
     ensures look { Audits S.Store conn.old conn.new result }
     ensures read { Consults result (R.view register.old) (R.view register.new) }
 {
@@ -194,6 +211,8 @@ fn is_number_recorded<S: Alter, R: Register>(
     requires stage { (R.view register.old).stage ≡ Stage.Idle }
     ensures says { Soundly S.Store conn.old conn.new (IfTrusted (R.view register.old) (R.view register.new) (AreAmounts (tables S.Store conn.old)
         → IfOk result (λ so. IsTrue so → IsNumberRecorded (tables S.Store conn.old) (R.view register.old).content number))) }
+    ensures exact { Soundly S.Store conn.old conn.new (IfTrusted (R.view register.old) (R.view register.new)
+        (SaysAll (tables S.Store conn.old) (R.view register.old).content → length (history_of (R.view register.old).content) ≤ count → IfOk result (λ so. IsTrue so))) }
     ensures look { Audits S.Store conn.old conn.new result }
     ensures read { Consults result (R.view register.old) (R.view register.new) }
 {
@@ -214,6 +233,8 @@ pub fn are_entries_recorded<S: Alter, R: Register>(
     requires stage { (R.view register.old).stage ≡ Stage.Idle }
     ensures says { Soundly S.Store conn.old conn.new (IfTrusted (R.view register.old) (R.view register.new) (AreAmounts (tables S.Store conn.old)
         → IfOk result (λ so. IsTrue so → AreAllRecorded (tables S.Store conn.old) (R.view register.old).content))) }
+    ensures exact { Soundly S.Store conn.old conn.new (IfTrusted (R.view register.old) (R.view register.new)
+        (SaysAll (tables S.Store conn.old) (R.view register.old).content → IfOk result (λ so. IsTrue so))) }
     ensures look { Audits S.Store conn.old conn.new result }
     ensures read { Consults result (R.view register.old) (R.view register.new) }
 {

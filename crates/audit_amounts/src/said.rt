@@ -8,6 +8,7 @@ use sql_amounts::AmountKey;
 use std::alloc::Global;
 
 /// Whether what is recorded under a key is what a register has there.
+#[tactic(auto, using(crate::proofs::SaidLemmas::one_paid))]
 pub fn is_said<R: Register>(
     alloc: Global,
     register: &mut R,
@@ -16,6 +17,7 @@ pub fn is_said<R: Register>(
 ) -> Result<bool, Fault>
     requires stage { (R.view register.old).stage ≡ Stage.Idle }
     ensures said { IfTrusted (R.view register.old) (R.view register.new) (IfOk result (λ so. IsTrue so → IsSaid (R.view register.old).content key.now recorded)) }
+    ensures exact { IfTrusted (R.view register.old) (R.view register.new) (IfOk result (λ so. IsSaid (R.view register.old).content key.now recorded → IsTrue so)) }
     ensures read { IsRead result (R.view register.old) (R.view register.new) }
 {
     let amount = recorded.unwrap_or(0);

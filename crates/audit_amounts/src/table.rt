@@ -8,6 +8,7 @@ ghost use Rattle.sql_tables.specs.Schema.{desk_schema};
 ghost use Rattle.sql_opening.specs.Forms.{AreAllFormed};
 ghost use Rattle.sql_opening.specs.Order.{AreInOrder};
 ghost use Rattle.audit_rows.specs.Audits.{Audits, Consults};
+ghost use Rattle.audit_amounts.specs.Said.{HasReadable};
 ghost use Rattle.audit_amounts.specs.Shown.{all_text, shown, AreTrueTables, IsTrueTable};
 
 use crate::row::show_true;
@@ -49,6 +50,8 @@ fn is_true_table<S: Alter, R: Register>(
     ensures says { Soundly S.Store conn.old conn.new (IfTrusted (R.view register.old) (R.view register.new)
         (AreInOrder desk_schema (tables S.Store conn.old).trees → AreAllFormed (tables S.Store conn.old).trees
         → IfOk result (λ so. IsTrue so → IsTrueTable (tables S.Store conn.old) (R.view register.old).content ledger))) }
+    ensures exact { Soundly S.Store conn.old conn.new (IfTrusted (R.view register.old) (R.view register.new)
+        (IsTrueTable (tables S.Store conn.old) (R.view register.old).content ledger → HasReadable (R.view register.old).content → IfOk result (λ so. IsTrue so))) }
     ensures look { Audits S.Store conn.old conn.new result }
     ensures read { Consults result (R.view register.old) (R.view register.new) }
 {
@@ -67,6 +70,8 @@ pub fn are_true_tables<S: Alter, R: Register>(
     ensures says { Soundly S.Store conn.old conn.new (IfTrusted (R.view register.old) (R.view register.new)
         (AreInOrder desk_schema (tables S.Store conn.old).trees → AreAllFormed (tables S.Store conn.old).trees
         → IfOk result (λ so. IsTrue so → AreTrueTables (tables S.Store conn.old) (R.view register.old).content))) }
+    ensures exact { Soundly S.Store conn.old conn.new (IfTrusted (R.view register.old) (R.view register.new)
+        (AreTrueTables (tables S.Store conn.old) (R.view register.old).content → HasReadable (R.view register.old).content → IfOk result (λ so. IsTrue so))) }
     ensures look { Audits S.Store conn.old conn.new result }
     ensures read { Consults result (R.view register.old) (R.view register.new) }
 {

@@ -46,7 +46,7 @@ account_none : (o : Option (List ℕ)) → o ≡ None → is_some o ≡ false
 account_none o none = ap is_some none
 
 module _ (limit : ℕ) (books : Books) (content : Content) (keeps : Keeps limit books content) where
-  h_is : history_of content ≡ books.history
+  pub h_is : history_of content ≡ books.history
   h_is = keeps.tables.history
 
   pub stands_nowhere : (n : ℕ) → instruction_at (history_of content) n ≡ None → content.standing n ≡ no_standing

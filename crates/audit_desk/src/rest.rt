@@ -1,6 +1,8 @@
 //! The tables that a register in memory says whole: all but `version` and `register`.
 ghost use Rattle.std.specs.Prelude.{◌≡◌, None, IfOk};
 ghost use Rattle.desk_register.specs.View.{IfTrusted};
+ghost use Rattle.desk_rules.specs.Content.{history_of};
+ghost use Rattle.desk_rules.specs.WellFormed.{AreWellFormed};
 ghost use Rattle.desk_engine.specs.KeptHistory.{HoldsKept};
 ghost use Rattle.sql_tables.specs.Calls.{Soundly, tables};
 ghost use Rattle.sql_tables.specs.Schema.{desk_schema};
@@ -39,6 +41,9 @@ pub fn first_other<S: Alter, R: Messages>(
         (AreInOrder desk_schema (tables S.Store conn.old).trees → AreAllFormed (tables S.Store conn.old).trees
         → HoldsKept (R.Register.view register.old).room (R.Register.view register.old).content.register (R.Register.view register.old).content
         → IfOk result (λ other. other ≡ None → SaysRest (tables S.Store conn.old) (R.Register.view register.old).content))) }
+    ensures exact { Soundly S.Store conn.old conn.new (IfTrusted (R.Register.view register.old) (R.Register.view register.new)
+        (HoldsKept (R.Register.view register.old).room (R.Register.view register.old).content.register (R.Register.view register.old).content → AreWellFormed (history_of (R.Register.view register.old).content)
+        → SaysRest (tables S.Store conn.old) (R.Register.view register.old).content → IfOk result (λ other. other ≡ None))) }
     ensures look { Audits S.Store conn.old conn.new result }
     ensures read { Consults result (R.Register.view register.old) (R.Register.view register.new) }
 {

@@ -3,7 +3,7 @@ use Rattle.std.proofs.Common.{◌≡◌, inl, inr, ℕ, zero, suc, ◌+◌, ◌<
 use Rattle.std.specs.List.{AllByRecursion}
 use Rattle.std.specs.List.Sorted.{IsPermutation}
 use Rattle.std.specs.Ordering.{is_gt, is_lt}
-use Rattle.std.proofs.lemmas.Bool.{both_ways, cases_Bool, cases_lt, eq-eqb}
+use Rattle.std.proofs.lemmas.Bool.{both_ways, cases_Bool, cases_lt, eq-eqb, le-ltb}
 use Rattle.std.proofs.lemmas.List.{nil_from_length}
 use Rattle.std.proofs.lemmas.List.Sorted.{length_permutation, IsPermutation-sym}
 use Rattle.sqlite.specs.declared.types.Value.TheVariants.{Int}
@@ -16,7 +16,7 @@ use Rattle.sqlite_trees.proofs.ListLemmas.{all-filter}
 use Rattle.sqlite_value.proofs.OrderLemmas.{value_cmp-Int}
 use Rattle.sql_tables.specs.Queries.{Among}
 use Rattle.sql_tables.proofs.QueryLemmas.{all_among, among_filter, filter_among, map_nil, none_among, only_one}
-use Rattle.sql_tables.proofs.ValueLemmas.{and_true, equal_test, number_greater, number_less, truth_of}
+use Rattle.sql_tables.proofs.ValueLemmas.{and_true, equal_test, number_below, number_equal, number_greater, number_less, truth_of}
 use Rattle.sql_opening.specs.Forms.{HasForm}
 use Rattle.audit_rows.specs.ByNumber.{has_number, is_above, is_below, HasEach, HasNoOther, HasOne}
 use Rattle.audit_rows.specs.Numbered.{and_row, numbered_from, row_with}
@@ -35,9 +35,21 @@ module _ (z : ℤ) (values : Row) where
   unfolding binary
   below_test m = rw (truth_of (is_lt (value_cmp (Int z) (Int (pos m))))) (and_true (is_lt (value_cmp (Int z) (Int (pos m)))))
 
-number_test : (m : ℕ) (values : Row) → has_number m (Int (pos m) ∷ values) ≡ true
+pub number_told : (n m : ℕ) (values : Row) → has_number m (Int (pos n) ∷ values) ≡ (n == m)
 unfolding binary
-number_test m values = rw (equal_test m m) (and_true (m == m) ∙ eq-eqb m m refl)
+number_told n m values = rw (equal_test n m) (and_true (n == m))
+
+number_test : (m : ℕ) (values : Row) → has_number m (Int (pos m) ∷ values) ≡ true
+number_test m values = number_told m m values ∙ eq-eqb m m refl
+
+pub is_not_above : (n count : ℕ) (values : Row) → n ≤ count → is_above count (Int (pos n) ∷ values) ≡ false
+is_not_above n count values high = above_test (pos n) values count ∙ elim (cases_lt n count) [
+  | inl low ↦ ap is_gt (number_less n count low)
+  | inr at ↦ (let same : n ≡ count = omega (arith, high, at) in subst (λ k. is_gt (value_cmp (Int (pos n)) (Int (pos k))) ≡ false) same (ap is_gt (number_equal n)))
+]
+
+pub is_not_below : (n : ℕ) (values : Row) → 0 < n → is_below 1 (Int (pos n) ∷ values) ≡ false
+is_not_below n values some = below_test (pos n) values 1 ∙ number_below n 1 ∙ le-ltb n 1 (omega (arith, some))
 
 within : (z : ℤ) (count : ℕ) → is_gt (value_cmp (Int z) (Int (pos count))) ≡ false → is_lt (value_cmp (Int z) (Int (pos 1))) ≡ false → (m : ℕ) × (z ≡ pos m) × (0 < m) × (m ≤ count)
 within (pos m) count high low = (
@@ -56,6 +68,16 @@ none_pass p rows r none at = elim (cases_Bool (p r)) [ inl passes ↦ absurd (no
 -- a query shows nothing where there is nothing
 pub nothing_there : (f : Row → Row) (mine rows : List Row) → IsPermutation (map f mine) rows → rows ≡ [] → mine ≡ []
 nothing_there f mine rows same none = map_nil f mine (nil_from_length (map f mine) (sym (length_permutation (map f mine) rows same) ∙ ap length none))
+
+-- and where there is nothing, it shows nothing
+pub nothing_shown : (f : Row → Row) (mine rows : List Row) → IsPermutation (map f mine) rows → mine ≡ [] → rows ≡ []
+nothing_shown f mine rows same none = nil_from_length rows (length_permutation (map f mine) rows same ∙ ap (λ xs. length (map f xs)) none)
+
+-- the row of a number, where it is there alone, is all that a query shows
+pub shows_it : (n : ℕ) (rows shown : List Row) (number : ℕ) (values : Row) → length values ≡ n → IsPermutation (map (shown_by n) (filter (has_number number) rows)) shown → HasOne rows number values
+    → shown ≡ (Int (pos number) ∷ values) ∷ []
+shows_it n rows shown number values size same one =
+    one_permutation (Int (pos number) ∷ values) shown (subst (λ xs. IsPermutation xs shown) (ap (map (shown_by n)) one ∙ ap (λ r. r ∷ []) (shown_whole (Int (pos number)) values n size)) same)
 
 pub is_its_row : (table : Table) (n : ℕ) → IsNumbered table n → (rows shown : List Row) (number : ℕ) (values : Row) → length values ≡ n → AllByRecursion (HasForm table) rows
     → IsPermutation (map (shown_by n) (filter (has_number number) rows)) shown → shown ≡ (Int (pos number) ∷ values) ∷ [] → HasOne rows number values

@@ -38,6 +38,13 @@ same_values row given size each =
         one [] k low each = absurd (omega (arith, low))
         one (v ∷ vs) k low each = each v low ∙ sym (get_or-map (λ v. bound_value (owned v)) (v ∷ vs) k v Null low)
 
+-- and of a row that says these each value is the one that was given
+pub value_at : (row : Row) (given : List ValueRef) → row ≡ bound given → (k : ℕ) (d : ValueRef) → k < length given → column row k ≡ bound_value (owned (get_or given k d))
+value_at row given is k d low = ap (λ r. column r k) is ∙ get_or-map (λ v. bound_value (owned v)) given k d Null low
+
+pub as_long : (row : Row) (given : List ValueRef) → row ≡ bound given → length row ≡ length given
+as_long row given is = ap length is ∙ length-map given (λ v. bound_value (owned v))
+
 -- ---- two tables with the same rows
 
 less_apart : (a b : Value) → value_cmp a b ≡ Less → value_cmp b a ≡ Less → ⊥

@@ -1,4 +1,5 @@
 pub mod Audits
 pub mod ByNumber
 pub mod Numbered
+pub mod Plain
 pub mod Whole

@@ -1,8 +1,10 @@
 //! Whether a row says given values.
-ghost use Rattle.std.specs.Prelude.{◌≡◌, IsTrue};
+ghost use Rattle.std.specs.Prelude.{◌≡◌, ◌<◌, length, IsTrue};
+ghost use Rattle.std.specs.List.{AllByRecursion};
 ghost use Rattle.sqlite.specs.Values.{bound, bound_value};
 ghost use Rattle.sqlite_value.specs.Value.{owned};
 ghost use Rattle.sqlite_value.specs.Order.{column};
+ghost use Rattle.audit_rows.specs.Plain.{IsPlain};
 
 use sqlite::Row;
 use sqlite::types::ValueRef;
@@ -10,9 +12,10 @@ use sqlite::types::ValueRef;
 /// The greatest integer of SQL.
 pub const MOST: u64 = i64::MAX as u64;
 
-/// Whether a value that is shown is one that was given. No number with a point is given.
+/// Whether a value that is shown is one that was given.
 fn same_value(shown: ValueRef<'_>, given: ValueRef<'_>) -> bool
-    ensures { IsTrue result → owned shown.entry ≡ bound_value (owned given.entry) }
+    ensures same { IsTrue result → owned shown.entry ≡ bound_value (owned given.entry) }
+    ensures all { IsPlain (owned given.entry) → owned shown.entry ≡ bound_value (owned given.entry) → IsTrue result }
 {
     match (shown, given) {
         (ValueRef::Null, ValueRef::Null) => true,
@@ -24,7 +27,8 @@ fn same_value(shown: ValueRef<'_>, given: ValueRef<'_>) -> bool
 
 /// Whether a row says the value at a place.
 fn says(row: &Row, at: usize, given: ValueRef<'_>) -> bool
-    ensures { IsTrue result → column row.now at ≡ bound_value (owned given.entry) }
+    ensures same { IsTrue result → column row.now at ≡ bound_value (owned given.entry) }
+    ensures all { IsPlain (owned given.entry) → at < length row.now → column row.now at ≡ bound_value (owned given.entry) → IsTrue result }
 {
     match row.get_ref(at) {
         Ok(shown) => same_value(shown, given),
@@ -32,10 +36,11 @@ fn says(row: &Row, at: usize, given: ValueRef<'_>) -> bool
     }
 }
 
-/// Whether a row says these values, and no more.
+/// Whether a row says these values, and no more. It is known of plain values alone that a row which says them is found to.
 #[tactic(auto, using(crate::proofs::RowLemmas::same_values))]
 pub fn same_row(row: &Row, given: &[ValueRef<'_>]) -> bool
-    ensures { IsTrue result → row.now ≡ bound given.now }
+    ensures same { IsTrue result → row.now ≡ bound given.now }
+    ensures all { AllByRecursion (λ value. IsPlain (owned value)) given.now → row.now ≡ bound given.now → IsTrue result }
 {
     if row.column_count() != given.len() {
         return false;

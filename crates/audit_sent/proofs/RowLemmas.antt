@@ -1,5 +1,5 @@
 -- What the texts show of the rows of `sent`.
-use Rattle.std.proofs.Common.{◌≡◌, ℕ, pos, List, [], ◌∷◌, map, filter, Bool, IsTrue, codes, refl, sym, ◌∙◌, Ok, Err, Result, IfOk, Vec}
+use Rattle.std.proofs.Common.{◌≡◌, ◌↔◌, ℕ, pos, List, [], ◌∷◌, map, filter, Bool, IsTrue, codes, refl, sym, ◌∙◌, Ok, Err, Result, IfOk, Vec}
 use Rattle.std.specs.declared.alloc.Global.{Global}
 use Rattle.std.specs.List.{AllByRecursion}
 use Rattle.std.specs.List.Sorted.{IsPermutation}
@@ -22,7 +22,7 @@ use Rattle.desk_rules.specs.declared.answers.reply.Sent.{Sent}
 use Rattle.audit_sent.specs.Told.{values_of}
 use Rattle.audit_rows.specs.ByNumber.{above, below, has_number, is_above, is_below, HasOne}
 use Rattle.audit_rows.specs.Whole.{shown_by}
-use Rattle.audit_rows.proofs.ByNumberLemmas.{is_its_row, nothing_there}
+use Rattle.audit_rows.proofs.ByNumberLemmas.{is_its_row, nothing_shown, nothing_there, shows_it}
 use Rattle.audit_rows.proofs.RowLemmas.{IsNumbered}
 
 -- ---- the texts
@@ -77,17 +77,21 @@ module _ (old new : State) (number : ℕ) (has : old.now.schema ≡ desk_schema)
   at_shown (Err e) h = tt
 
   pub above_shown : (r : Result (Vec Row Global) Error) → IfOk r (λ rows. Shown above_text (Int (pos number) ∷ []) old new rows.items)
-      → IfOk r (λ rows. rows.items ≡ [] → filter (is_above number) (old.now.trees 9) ≡ [])
-  above_shown (Ok rows) h = λ none.
+      → IfOk r (λ rows. rows.items ≡ [] ↔ filter (is_above number) (old.now.trees 9) ≡ [])
+  above_shown (Ok rows) h =
       let answers = reads_as above_text _ old new desk_schema has _ above_is reads_above.plain reads_above.unlisted rows.items h in
-      nothing_there _ (filter (is_above number) (old.now.trees 9)) rows.items (plain_rows 9 (above ∷ []) (col 1 0 ∷ []) (overlay old.now.trees []) (Int (pos number) ∷ []) rows.items (answers.answer Null)) none
+      let mine = filter (is_above number) (old.now.trees 9) in
+      let shown = plain_rows 9 (above ∷ []) (col 1 0 ∷ []) (overlay old.now.trees []) (Int (pos number) ∷ []) rows.items (answers.answer Null) in
+      (nothing_there _ mine rows.items shown, nothing_shown _ mine rows.items shown)
   above_shown (Err e) h = tt
 
   pub below_shown : (r : Result (Vec Row Global) Error) → IfOk r (λ rows. Shown below_text (Int (pos number) ∷ []) old new rows.items)
-      → IfOk r (λ rows. rows.items ≡ [] → filter (is_below number) (old.now.trees 9) ≡ [])
-  below_shown (Ok rows) h = λ none.
+      → IfOk r (λ rows. rows.items ≡ [] ↔ filter (is_below number) (old.now.trees 9) ≡ [])
+  below_shown (Ok rows) h =
       let answers = reads_as below_text _ old new desk_schema has _ below_is reads_below.plain reads_below.unlisted rows.items h in
-      nothing_there _ (filter (is_below number) (old.now.trees 9)) rows.items (plain_rows 9 (below ∷ []) (col 1 0 ∷ []) (overlay old.now.trees []) (Int (pos number) ∷ []) rows.items (answers.answer Null)) none
+      let mine = filter (is_below number) (old.now.trees 9) in
+      let shown = plain_rows 9 (below ∷ []) (col 1 0 ∷ []) (overlay old.now.trees []) (Int (pos number) ∷ []) rows.items (answers.answer Null) in
+      (nothing_there _ mine rows.items shown, nothing_shown _ mine rows.items shown)
   below_shown (Err e) h = tt
 
 -- ---- the row of a number
@@ -98,3 +102,7 @@ numbered = record { key = refl; last = refl; size = refl }
 pub row_told : (rows : List Row) (number : ℕ) (message : Sent) (shown items : List Row) (told : Bool) → IsPermutation (map (shown_by 4) (filter (has_number number) rows)) items → shown ≡ items
     → (IsTrue told → shown ≡ (Int (pos number) ∷ values_of message) ∷ []) → AllByRecursion (HasForm sent_table) rows → IsTrue told → HasOne rows number (values_of message)
 row_told rows number message shown items told same is tells formed all = is_its_row sent_table 4 numbered rows items number (values_of message) refl formed same (sym is ∙ tells all)
+
+pub row_shown : (rows : List Row) (number : ℕ) (message : Sent) (shown items : List Row) (told : Bool) → IsPermutation (map (shown_by 4) (filter (has_number number) rows)) items → shown ≡ items
+    → (shown ≡ (Int (pos number) ∷ values_of message) ∷ [] → IsTrue told) → HasOne rows number (values_of message) → IsTrue told
+row_shown rows number message shown items told same is tells one = tells (is ∙ shows_it 4 rows items number (values_of message) refl same one)

@@ -1,21 +1,26 @@
 -- The table is the list that was sent.
-use Rattle.std.proofs.Common.{◌≡◌, inl, inr, ℕ, suc, ◌+◌, ◌<◌, ◌≤◌, ◌^◌, List, [], ◌∷◌, ◌++◌, length, slice_get, option_map, Bool, Option, Some, IsTrue, Ok, Err, Result, IfOk, refl, sym, ap, subst, ◌∙◌, arith, length-append}
+use Rattle.std.proofs.Common.{◌≡◌, inl, inr, ℕ, zero, suc, ◌+◌, ◌<◌, ◌≤◌, ◌==◌, ◌^◌, pos, List, [], ◌∷◌, ◌++◌, length, filter, slice_get, option_map, Bool, Option, Some, None, IsTrue, Ok, Err, Result, IfOk, refl, sym, ap, subst, ◌∙◌, arith, length-append}
 use Rattle.std.specs.List.{AllByRecursion}
-use Rattle.std.proofs.lemmas.Bool.{cases_lt}
+use Rattle.std.proofs.lemmas.Bool.{cases_lt, eqb-true}
 use Rattle.std.proofs.lemmas.List.{append_assoc}
+use Rattle.std.proofs.lemmas.Option.{slice_get-get_or}
 use Rattle.sqlite.specs.Effect.{Database}
+use Rattle.sqlite.specs.declared.types.Value.TheVariants.{Null}
 use Rattle.sqlite.specs.Order.{Row}
 use Rattle.desk_rules.specs.declared.answers.reply.Sent.{Sent}
 use Rattle.desk_rules.specs.Content.{Content}
 use Rattle.desk_rules.specs.Questions.{sent_at}
+use Rattle.sql_tables.specs.Queries.{Among}
 use Rattle.sql_tables.specs.Schema.{desk_schema, sent_table}
 use Rattle.sql_opening.specs.Forms.{AreAllFormed}
 use Rattle.sql_opening.specs.Order.{AreInOrder}
-use Rattle.sql_sent.specs.Messages.{rows_from, AreSent}
+use Rattle.sql_tables.proofs.QueryLemmas.{among_filter}
+use Rattle.sql_sent.specs.Messages.{rows_from, stored, AreSent}
+use Rattle.sql_sent.proofs.RowLemmas.{dropped, found_at, AreRowsOf}
 use Rattle.audit_rows.specs.declared.fault.AuditFault.{AuditFault}
-use Rattle.audit_rows.specs.ByNumber.{HasEach, HasNoOther}
+use Rattle.audit_rows.specs.ByNumber.{has_number, is_above, is_below, HasEach, HasNoOther}
 use Rattle.audit_rows.specs.Numbered.{and_row, numbered_from, row_with}
-use Rattle.audit_rows.proofs.ByNumberLemmas.{same_list}
+use Rattle.audit_rows.proofs.ByNumberLemmas.{is_not_above, is_not_below, number_told, same_list}
 use Rattle.audit_sent.specs.Told.{values_of, AreTold, IsTold}
 
 pub told_next : (rows : List Row) (messages : List Sent) (n : ℕ) → AreTold rows messages n → IsTold rows messages (n + 1) → AreTold rows messages (n + 1)
@@ -72,3 +77,50 @@ finish db content count (Ok ok) is few order formed none told = λ yes. record {
   fit = fit_after (db.trees 9) [] content.sent (λ n low high. told yes n low (omega (arith, high, is)));
 }
 finish db content count (Err e) is few order formed none told = tt
+
+-- ---- and a list that was sent is found to be the table
+
+none_above : (count before : ℕ) (messages : List Sent) → before + length messages ≤ count → filter (is_above count) (rows_from (before + 1) messages) ≡ []
+none_above count before [] high = refl
+none_above count before (m ∷ ms) high =
+    dropped (is_above count) (stored (before + 1) m) (rows_from (before + 1 + 1) ms) (is_not_above (before + 1) count (Null ∷ values_of m) (omega (arith, high))) ∙ none_above count (before + 1) ms (omega (arith, high))
+
+none_below : (before : ℕ) (messages : List Sent) → filter (is_below 1) (rows_from (before + 1) messages) ≡ []
+none_below before [] = refl
+none_below before (m ∷ ms) = dropped (is_below 1) (stored (before + 1) m) (rows_from (before + 1 + 1) ms) (is_not_below (before + 1) (Null ∷ values_of m) (omega arith)) ∙ none_below (before + 1) ms
+
+pub no_other : (db : Database) (messages : List Sent) → AreSent db messages → HasNoOther (db.trees 9) (length messages)
+no_other db messages are = record {
+  above = ap (filter (is_above (length messages))) are.rows ∙ none_above (length messages) 0 messages (omega arith);
+  below = ap (filter (is_below 1)) are.rows ∙ none_below 0 messages;
+}
+
+row_told : (db : Database) (messages : List Sent) (number : ℕ) (o : Option Sent) → AreSent db messages → sent_at messages number ≡ o → AreRowsOf (filter (has_number number) (rows_from 1 messages)) o → 0 < number → number ≤ length messages
+    → IsTold (db.trees 9) messages number
+row_told db messages number None are is found some high = absurd (there messages number some high is)
+  where
+    there : (messages : List Sent) (number : ℕ) → 0 < number → number ≤ length messages → sent_at messages number ≡ None → ⊥
+    there messages zero some high none = omega (arith, some)
+    there [] (suc k) some high none = omega (arith, high)
+    there (m ∷ ms) (suc k) some high none = let at : slice_get (m ∷ ms) k ≡ Some _ = slice_get-get_or (m ∷ ms) k m (omega (arith, high)) in absurd (cc)
+row_told db messages number (Some m) are is found some high =
+    let row = found.1.0 in
+    let mine = filter (has_number number) (rows_from 1 messages) in
+    let own = found.1.2 in
+    let passes = (among_filter (has_number number) (rows_from 1 messages) row (subst (λ rows. Among rows row) (sym found.1.1) (inl refl))).1 in
+    let same : own.0 ≡ number = eqb-true own.0 number (sym (number_told own.0 number (Null ∷ values_of m)) ∙ ap (has_number number) (sym own.1) ∙ passes) in
+    record {
+      message = m;
+      is = is;
+      row = ap (filter (has_number number)) are.rows ∙ found.1.1 ∙ ap (λ r. r ∷ []) (own.1 ∙ ap (λ n. stored n m) same);
+      fits = found.0;
+    }
+
+pub all_told : (db : Database) (messages : List Sent) → AreSent db messages → AreTold (db.trees 9) messages (length messages)
+all_told db messages are number some high =
+    row_told db messages number (sent_at messages number) are refl (found_at number (has_number number) (length messages) (λ n m low. number_told n number (Null ∷ values_of m)) messages are.fit (omega arith)) some high
+
+-- in the form of a call's answer
+pub found : (db : Database) (content : Content) (count : ℕ) (r : Result Bool AuditFault) → count ≡ length content.sent → IfOk r (λ ok. AreTold (db.trees 9) content.sent count → IsTrue ok) → IfOk r (λ ok. AreSent db content.sent → IsTrue ok)
+found db content count (Ok ok) is told = λ are. told (subst (AreTold (db.trees 9) content.sent) (sym is) (all_told db content.sent are))
+found db content count (Err e) is told = tt

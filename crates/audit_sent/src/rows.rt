@@ -1,13 +1,15 @@
 //! The rows of `sent` by their numbers.
-ghost use Rattle.std.specs.Prelude.{◌≡◌, ◌<◌, ◌^◌, ◌∷◌, [], pos, map, filter, IsTrue, IfOk};
+ghost use Rattle.std.specs.Prelude.{◌≡◌, ◌<◌, ◌^◌, ◌↔◌, ◌∷◌, [], pos, map, filter, IsTrue, IfOk};
 ghost use Rattle.std.specs.List.{AllByRecursion};
 ghost use Rattle.std.specs.List.Sorted.{IsPermutation};
 ghost use Rattle.sqlite.specs.Values.{bound};
 ghost use Rattle.sqlite.specs.declared.types.Value.TheVariants.{Int};
+ghost use Rattle.sqlite_value.specs.Value.{owned};
 ghost use Rattle.sql_tables.specs.Calls.{Looks, Soundly, tables};
 ghost use Rattle.sql_tables.specs.Schema.{sent_table};
 ghost use Rattle.sql_opening.specs.Forms.{HasForm};
 ghost use Rattle.audit_rows.specs.ByNumber.{has_number, is_above, is_below, HasNoOther, HasOne};
+ghost use Rattle.audit_rows.specs.Plain.{IsPlain};
 ghost use Rattle.audit_rows.specs.Whole.{shown_by};
 ghost use Rattle.audit_sent.specs.Told.{values_of};
 
@@ -34,7 +36,7 @@ fn rows_at<S: Alter>(conn: &mut Connection<S>, number: u64) -> Result<Vec<Row>, 
 /// The numbers above one.
 fn rows_above<S: Alter>(conn: &mut Connection<S>, number: u64) -> Result<Vec<Row>, Error>
     requires { number < 2 ^ 63 }
-    ensures shown { Soundly S.Store conn.old conn.new (IfOk result (λ rows. rows.items ≡ [] → filter (is_above number) ((tables S.Store conn.old).trees 9) ≡ [])) }
+    ensures shown { Soundly S.Store conn.old conn.new (IfOk result (λ rows. rows.items ≡ [] ↔ filter (is_above number) ((tables S.Store conn.old).trees 9) ≡ [])) }
     ensures look { Looks S.Store conn.old conn.new result }
 {
     query(
@@ -47,7 +49,7 @@ fn rows_above<S: Alter>(conn: &mut Connection<S>, number: u64) -> Result<Vec<Row
 /// The numbers below one.
 fn rows_below<S: Alter>(conn: &mut Connection<S>, number: u64) -> Result<Vec<Row>, Error>
     requires { number < 2 ^ 63 }
-    ensures shown { Soundly S.Store conn.old conn.new (IfOk result (λ rows. rows.items ≡ [] → filter (is_below number) ((tables S.Store conn.old).trees 9) ≡ [])) }
+    ensures shown { Soundly S.Store conn.old conn.new (IfOk result (λ rows. rows.items ≡ [] ↔ filter (is_below number) ((tables S.Store conn.old).trees 9) ≡ [])) }
     ensures look { Looks S.Store conn.old conn.new result }
 {
     query(
@@ -60,7 +62,8 @@ fn rows_below<S: Alter>(conn: &mut Connection<S>, number: u64) -> Result<Vec<Row
 /// The values of a message's row.
 fn values(number: u64, message: &Sent) -> [ValueRef<'_>; 5]
     requires { number < 2 ^ 63 }
-    ensures { bound result ≡ Int (pos number) ∷ values_of message.now }
+    ensures said { bound result ≡ Int (pos number) ∷ values_of message.now }
+    ensures plain { AllByRecursion (λ value. IsPlain (owned value)) result }
 {
     [
         integer(number),
@@ -74,7 +77,7 @@ fn values(number: u64, message: &Sent) -> [ValueRef<'_>; 5]
 /// Whether shown rows are the one of a message.
 fn is_row_of(rows: &[Row], number: u64, message: &Sent) -> bool
     requires { number < 2 ^ 63 }
-    ensures { IsTrue result → rows.now ≡ (Int (pos number) ∷ values_of message.now) ∷ [] }
+    ensures { IsTrue result ↔ rows.now ≡ (Int (pos number) ∷ values_of message.now) ∷ [] }
 {
     match rows {
         [row] => same_row(row, &values(number, message)),
@@ -91,6 +94,7 @@ pub fn has_row<S: Alter>(
     requires { number < 2 ^ 63 }
     ensures row { Soundly S.Store conn.old conn.new (AllByRecursion (HasForm sent_table) ((tables S.Store conn.old).trees 9)
         → IfOk result (λ ok. IsTrue ok → HasOne ((tables S.Store conn.old).trees 9) number (values_of message.now))) }
+    ensures exact { Soundly S.Store conn.old conn.new (IfOk result (λ ok. HasOne ((tables S.Store conn.old).trees 9) number (values_of message.now) → IsTrue ok)) }
     ensures look { Looks S.Store conn.old conn.new result }
 {
     let rows = rows_at(conn, number)?;
@@ -100,7 +104,7 @@ pub fn has_row<S: Alter>(
 /// Whether there is no row below 1, nor above the last.
 pub fn has_no_other<S: Alter>(conn: &mut Connection<S>, count: u64) -> Result<bool, Error>
     requires { count < 2 ^ 63 }
-    ensures none { Soundly S.Store conn.old conn.new (IfOk result (λ ok. IsTrue ok → HasNoOther ((tables S.Store conn.old).trees 9) count)) }
+    ensures none { Soundly S.Store conn.old conn.new (IfOk result (λ ok. IsTrue ok ↔ HasNoOther ((tables S.Store conn.old).trees 9) count)) }
     ensures look { Looks S.Store conn.old conn.new result }
 {
     if !rows_above(conn, count)?.is_empty() {

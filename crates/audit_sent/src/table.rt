@@ -36,6 +36,8 @@ fn is_told<S: Alter, R: Messages>(
     requires stage { (R.Register.view register.old).stage ≡ Stage.Idle }
     ensures told { Soundly S.Store conn.old conn.new (IfTrusted (R.Register.view register.old) (R.Register.view register.new) (AllByRecursion (HasForm sent_table) ((tables S.Store conn.old).trees 9)
         → IfOk result (λ ok. IsTrue ok → IsTold ((tables S.Store conn.old).trees 9) (R.Register.view register.old).content.sent (before + 1)))) }
+    ensures exact { Soundly S.Store conn.old conn.new (IfTrusted (R.Register.view register.old) (R.Register.view register.new)
+        (IfOk result (λ ok. IsTold ((tables S.Store conn.old).trees 9) (R.Register.view register.old).content.sent (before + 1) → IsTrue ok))) }
     ensures look { Audits S.Store conn.old conn.new result }
     ensures read { Consults result (R.Register.view register.old) (R.Register.view register.new) }
 {
@@ -59,6 +61,8 @@ fn are_told<S: Alter, R: Messages>(
     requires stage { (R.Register.view register.old).stage ≡ Stage.Idle }
     ensures told { Soundly S.Store conn.old conn.new (IfTrusted (R.Register.view register.old) (R.Register.view register.new) (AllByRecursion (HasForm sent_table) ((tables S.Store conn.old).trees 9)
         → IfOk result (λ ok. IsTrue ok → AreTold ((tables S.Store conn.old).trees 9) (R.Register.view register.old).content.sent count))) }
+    ensures exact { Soundly S.Store conn.old conn.new (IfTrusted (R.Register.view register.old) (R.Register.view register.new)
+        (IfOk result (λ ok. AreTold ((tables S.Store conn.old).trees 9) (R.Register.view register.old).content.sent count → IsTrue ok))) }
     ensures look { Audits S.Store conn.old conn.new result }
     ensures read { Consults result (R.Register.view register.old) (R.Register.view register.new) }
 {
@@ -81,6 +85,8 @@ pub fn has_sent<S: Alter, R: Messages>(
     ensures sent { Soundly S.Store conn.old conn.new (IfTrusted (R.Register.view register.old) (R.Register.view register.new)
         (AreInOrder desk_schema (tables S.Store conn.old).trees → AreAllFormed (tables S.Store conn.old).trees
         → IfOk result (λ ok. IsTrue ok → AreSent (tables S.Store conn.old) (R.Register.view register.old).content.sent))) }
+    ensures exact { Soundly S.Store conn.old conn.new (IfTrusted (R.Register.view register.old) (R.Register.view register.new)
+        (IfOk result (λ ok. AreSent (tables S.Store conn.old) (R.Register.view register.old).content.sent → IsTrue ok))) }
     ensures look { Audits S.Store conn.old conn.new result }
     ensures read { Consults result (R.Register.view register.old) (R.Register.view register.new) }
 {

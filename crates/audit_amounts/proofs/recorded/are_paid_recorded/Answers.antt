@@ -1,4 +1,4 @@
-use Rattle.std.proofs.Common.{ℕ, ◌<◌, get_or, slice_index_or}
+use Rattle.std.proofs.Common.{ℕ, ◌<◌, get_or, slice_index_or, sym, ◌∙◌}
 use Rattle.sqlite.specs.Held.{state}
 use Rattle.desk_codes.specs.declared.currency.Ccy.{Ccy}
 use Rattle.desk_codes.specs.declared.currency.Ccy.TheVariants.{Chf}
@@ -7,8 +7,8 @@ use Rattle.desk_register.proofs.ReadLemmas.{read_more}
 use Rattle.sql_amounts.specs.declared.key.AmountKey.TheVariants.{Currency}
 use Rattle.sql_amounts.specs.Amounts.{AreAmounts}
 use Rattle.sql_tables.proofs.LookLemmas.{look_more}
-use Rattle.audit_amounts.specs.Recorded.{IsRecorded}
-use Rattle.audit_amounts.proofs.WalkLemmas.{in_turn, next_currency}
+use Rattle.audit_amounts.specs.Recorded.{IsRecorded, SaysAll}
+use Rattle.audit_amounts.proofs.WalkLemmas.{found_so, in_turn, next_currency}
 use Rattle.audit_amounts.proofs.recorded.are_paid_recorded.Goals as goal
 
 pub loop-ccy-preserved : goal.loop-ccy-preserved
@@ -34,3 +34,11 @@ loop-ccy-preserved g c =
           (λ clean is_open has honest sure amounts. so.says clean is_open has honest sure amounts c.if-not-branch.false) clean is_open has honest sure in
           next_currency (λ ccy. IsRecorded s0.now v0.content (Currency ccy)) c.args.ccys.now c.loop-ccy.ccy-index first c.loop-ccy-test.true (both.0 amounts) (both.1 amounts);
     }
+
+pub returns-then-not-branch-clause-exact : goal.returns-then-not-branch-clause-exact
+returns-then-not-branch-clause-exact g c = λ clean is_open has honest sure all.
+    let i = c.loop-ccy.invariant in
+    let so = c.in_ok-is_recorded.ensures in
+    sym c.if-not-branch.true ∙ found_so (state g.S.Store c.args.conn.now) (state g.S.Store c.loop-ccy.conn) (state g.S.Store c.is_recorded.new.conn)
+    (g.R.Register.view c.args.register.now) (g.R.Register.view c.loop-ccy.register) (g.R.Register.view c.is_recorded.new.register)
+    i.look i.read so.look.later so.read.later SaysAll so.exact clean is_open has honest sure all

@@ -1,15 +1,18 @@
-use Rattle.std.proofs.Common.{arith}
+use Rattle.std.proofs.Common.{IsTrue, arith}
+use Rattle.std.proofs.lemmas.Bool.{both_ways}
 use Rattle.sqlite.specs.Effect.{Database}
 use Rattle.sqlite.specs.Held.{state}
 use Rattle.sqlite.specs.State.{HasCleanDisk}
 use Rattle.desk_rules.specs.Content.{Content}
 use Rattle.sql_sent.specs.Messages.{AreSent}
-use Rattle.audit_amounts.specs.Said.{HasAmounts}
+use Rattle.audit_amounts.specs.Said.{HasAmounts, HasReadable}
+use Rattle.audit_amounts.proofs.WalkLemmas.{found_so}
 use Rattle.desk_register.specs.View.{HasRead}
 use Rattle.sql_tables.specs.Ends.{HasLooked}
 use Rattle.sql_tables.proofs.LookLemmas.{look_more}
 use Rattle.desk_register.proofs.ReadLemmas.{read_more}
 use Rattle.audit_desk.proofs.GoneLemmas.{moved, IsAccepted}
+use Rattle.audit_desk.proofs.ReadableFacts.{readable}
 use Rattle.audit_desk.proofs.RestLemmas.{no_stranger, stands_within}
 use Rattle.audit_desk.proofs.rest.first_other.Goals as goal
 
@@ -40,3 +43,35 @@ returns-clause-says g c = λ clean3 is_open has honest3 sure order formed held n
       amounts = moved s0 s2 s3 v0 v2 v3 HasAmounts l2 r2 e3.look.later e3.read.later
           (λ clean is_open has honest sure it. e3.says clean is_open has honest sure it.order it.formed (no_stranger v2.room v2.content it.held) c.if-not-branch-3.false) clean3 is_open has honest3 sure it;
     }
+
+pub returns-then-not-branch-clause-exact : goal.returns-then-not-branch-clause-exact
+returns-then-not-branch-clause-exact g c = λ clean is_open has honest sure held formed rest.
+    let v0 = g.R.Register.view c.args.register.now in
+    absurd (both_ways c.in_ok-has_standings.field-0 c.if-not-branch.true (c.in_ok-has_standings.ensures.exact clean is_open has honest sure (stands_within v0.room v0.content held) rest.standings))
+
+pub returns-then-not-branch-2-clause-exact : goal.returns-then-not-branch-2-clause-exact
+returns-then-not-branch-2-clause-exact g c = λ clean is_open has honest sure held formed rest.
+    let e1 = c.in_ok-has_standings.ensures in
+    let e2 = c.in_ok-has_sent.ensures in
+    absurd (both_ways c.in_ok-has_sent.field-0 c.if-not-branch-2.true
+    (found_so (state g.S.Store c.args.conn.now) (state g.S.Store c.has_standings.new.conn) (state g.S.Store c.has_sent.new.conn)
+    (g.R.Register.view c.args.register.now) (g.R.Register.view c.has_standings.new.register) (g.R.Register.view c.has_sent.new.register)
+    e1.look e1.read e2.look.later e2.read.later (λ (d : Database) (x : Content). AreSent d x.sent) e2.exact clean is_open has honest sure rest.sent))
+
+pub returns-then-not-branch-3-clause-exact : goal.returns-then-not-branch-3-clause-exact
+returns-then-not-branch-3-clause-exact g c = λ clean is_open has honest sure held formed rest.
+    let s0 = state g.S.Store c.args.conn.now in
+    let s1 = state g.S.Store c.has_standings.new.conn in
+    let s2 = state g.S.Store c.has_sent.new.conn in
+    let v0 = g.R.Register.view c.args.register.now in
+    let v1 = g.R.Register.view c.has_standings.new.register in
+    let v2 = g.R.Register.view c.has_sent.new.register in
+    let e1 = c.in_ok-has_standings.ensures in
+    let e2 = c.in_ok-has_sent.ensures in
+    let e3 = c.in_ok-has_amounts.ensures in
+    let l2 : HasLooked s0 s2 = look_more tt s0 s1 s2 e1.look e2.look in
+    let r2 : HasRead v0 v2 = read_more tt v0 v1 v2 e1.read e2.read in
+    absurd (both_ways c.in_ok-has_amounts.field-0 c.if-not-branch-3.true
+    (found_so s0 s2 (state g.S.Store c.has_amounts.new.conn) v0 v2 (g.R.Register.view c.has_amounts.new.register) l2 r2 e3.look.later e3.read.later
+    (λ (d : Database) (x : Content). HasReadable x × HasAmounts d x)
+    (λ clean is_open has honest sure both. e3.exact clean is_open has honest sure both.0 both.1) clean is_open has honest sure (readable v0.room v0.content held formed, rest.amounts)))
