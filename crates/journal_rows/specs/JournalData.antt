@@ -7,7 +7,9 @@ use Rattle.desk_codes.specs.Currency.{letters_of}
 use Rattle.desk_msg.specs.MessageType.{number_of_type}
 use Rattle.desk_msg.specs.Profile.{code_of_kind}
 use Rattle.desk_msg.specs.StatusText.{code_of_reason}
+use Rattle.desk_msg.specs.declared.instruction.CancelOrder.{CancelOrder}
 use Rattle.desk_msg.specs.declared.instruction.Instruction.{Instruction}
+use Rattle.desk_msg.specs.declared.instruction.Kind.{Kind}
 use Rattle.desk_rules.specs.declared.history.entry.Entry.{Entry}
 use Rattle.desk_rules.specs.declared.history.entry.Entry.TheVariants.{Participant, Account, Security, Issue, Redeem, PayIn, PayOut, Instruct, Cancel, Run}
 use Rattle.desk_rules.specs.declared.history.entry.Movement.{Movement}
@@ -46,21 +48,37 @@ instruct_data instruction =
     (text_member (codes "kind") (code_of_kind instruction.kind) (number_member (codes "mt") (number_of_type instruction.mt) (text_member (codes "op") (codes "instruct")
     (number_member (codes "quantity") instruction.quantity no_members))))))))))
 
+-- a participant, an account, a security that is registered
+abbrev pub participant_data : List ℕ → Data
+participant_data bic = object (text_member (codes "bic") bic (text_member (codes "op") (codes "participant") no_members))
+
+abbrev pub account_data : List ℕ → List ℕ → Data
+account_data bic account = object (text_member (codes "account") account (text_member (codes "bic") bic (text_member (codes "op") (codes "account") no_members)))
+
+abbrev pub security_data : List ℕ → Kind → Data
+security_data isin kind = object (text_member (codes "isin") isin (text_member (codes "kind") (code_of_kind kind) (text_member (codes "op") (codes "security") no_members)))
+
+-- a participant's order to cancel
+abbrev pub order_data : CancelOrder → Data
+order_data order =
+    object (number_member (codes "mt") (number_of_type order.mt) (text_member (codes "op") (codes "cancel") (text_member (codes "previous") order.previous no_members)))
+
+-- a run
+abbrev pub run_data : List ℕ → Data
+run_data day = object (text_member (codes "day") day (text_member (codes "op") (codes "run") no_members))
+
 -- what an entry asks for
 abbrev pub command_data : Entry → Data
-command_data (Participant reference bic) = object (text_member (codes "bic") bic (text_member (codes "op") (codes "participant") no_members))
-command_data (Account reference bic account) =
-    object (text_member (codes "account") account (text_member (codes "bic") bic (text_member (codes "op") (codes "account") no_members)))
-command_data (Security reference isin kind) =
-    object (text_member (codes "isin") isin (text_member (codes "kind") (code_of_kind kind) (text_member (codes "op") (codes "security") no_members)))
+command_data (Participant reference bic) = participant_data bic
+command_data (Account reference bic account) = account_data bic account
+command_data (Security reference isin kind) = security_data isin kind
 command_data (Issue movement) = movement_data (codes "issue") movement
 command_data (Redeem movement) = movement_data (codes "redeem") movement
 command_data (PayIn payment) = payment_data (codes "payin") payment
 command_data (PayOut payment) = payment_data (codes "payout") payment
 command_data (Instruct sender instruction) = instruct_data instruction
-command_data (Cancel sender order) =
-    object (number_member (codes "mt") (number_of_type order.mt) (text_member (codes "op") (codes "cancel") (text_member (codes "previous") order.previous no_members)))
-command_data (Run reference day rule) = object (text_member (codes "day") day (text_member (codes "op") (codes "run") no_members))
+command_data (Cancel sender order) = order_data order
+command_data (Run reference day rule) = run_data day
 
 -- who sent an entry; null for the operator
 abbrev pub sender_data : Sender → Data
@@ -75,10 +93,14 @@ entry_member name number more = member name (or_null number_data number) more
 abbrev pub cancel_data : Option ℕ → List ℕ → Data
 cancel_data instruction state = object (entry_member (codes "instruction") instruction (text_member (codes "state") state no_members))
 
+-- how what has no more to tell fares
+abbrev pub state_data : List ℕ → Data
+state_data state = object (text_member (codes "state") state no_members)
+
 -- how an entry fares by now
 abbrev pub outcome_data : Outcome → Data
-outcome_data Booked = object (text_member (codes "state") (codes "booked") no_members)
-outcome_data Unmatched = object (text_member (codes "state") (codes "unmatched") no_members)
+outcome_data Booked = state_data (codes "booked")
+outcome_data Unmatched = state_data (codes "unmatched")
 outcome_data (Matched mate reason) =
     object (entry_member (codes "mate") mate (text_member (codes "reason") (code_of_reason reason) (text_member (codes "state") (codes "matched") no_members)))
 outcome_data (Settled mate run day) =

@@ -3,26 +3,16 @@ ghost use Rattle.std.specs.Prelude.{◌≡◌, map, IfOk, string_bytes};
 ghost use Rattle.serde_json.specs.Data.{array, string};
 ghost use Rattle.serde_json.specs.View.{view, items_of};
 ghost use Rattle.serde_json.specs.Written.{compact_text};
-ghost use Rattle.desk_msg.specs.StatusText.{code_of_reason};
-ghost use Rattle.report_rows.specs.RowData.{amount_data, ccy_data, number_data, or_null};
-ghost use Rattle.journal_rows.specs.JournalData.{cancel_data, command_data, instruct_data, journal_data, key_data, movement_data, outcome_data, payment_data, sender_data};
+ghost use Rattle.report_rows.specs.RowData.{or_null};
+ghost use Rattle.journal_rows.specs.JournalData.{account_data, cancel_data, command_data, instruct_data, journal_data, key_data, movement_data, order_data, outcome_data, participant_data, payment_data, run_data, security_data, sender_data, state_data};
 
 use crate::journal::{JournalRow, MessageKey, Outcome};
-use desk_codes::Day;
-use desk_msg::{Cash, Instruction, Reason};
+use desk_codes::{AccountId, Bic, Day, Isin};
+use desk_msg::{CancelOrder, Instruction, Kind, Reason};
 use desk_rules::{Entry, Movement, Payment, Sender};
-use serde_json::{Value, json};
+use report_rows::{Object, amount_value, ccy_value, optional_number, reason_code};
+use serde_json::Value;
 use std::alloc::{AllocError, Global};
-
-/// A number, or null where there is none.
-fn optional_number(number: Option<u64>) -> Value
-    ensures { view result ≡ or_null number_data number }
-{
-    match number {
-        Some(number) => Value::from(number),
-        None => Value::Null,
-    }
-}
 
 /// A day, or null where there is none.
 fn optional_day(alloc: Global, day: Option<Day>) -> Result<Value, AllocError>
@@ -31,37 +21,6 @@ fn optional_day(alloc: Global, day: Option<Day>) -> Result<Value, AllocError>
     match day {
         Some(day) => Value::try_from_str(alloc, day.as_str()),
         None => Ok(Value::Null),
-    }
-}
-
-/// The amount of an instruction's cash in minor units; null free of payment.
-fn amount_value(cash: Option<Cash>) -> Value
-    ensures { view result ≡ amount_data cash }
-{
-    match cash {
-        Some(cash) => Value::from(cash.amount),
-        None => Value::Null,
-    }
-}
-
-/// The currency of an instruction's cash; null free of payment.
-fn ccy_value(alloc: Global, cash: Option<Cash>) -> Result<Value, AllocError>
-    ensures { IfOk result (λ value. view value ≡ ccy_data cash) }
-{
-    match cash {
-        Some(cash) => Value::try_from_str(alloc, cash.ccy.as_str()),
-        None => Ok(Value::Null),
-    }
-}
-
-/// The reason code of an instruction that waits, four letters (ISO 15022, field 24B).
-pub fn reason_code(reason: Reason) -> &'static str
-    ensures { result.now ≡ code_of_reason reason }
-{
-    match reason {
-        Reason::Future => "FUTU",
-        Reason::Lack => "LACK",
-        Reason::Money => "MONY",
     }
 }
 
@@ -79,43 +38,95 @@ fn sender_value(alloc: Global, sender: &Sender) -> Result<Value, AllocError>
 fn movement_value(alloc: Global, op: &str, movement: &Movement) -> Result<Value, AllocError>
     ensures { IfOk result (λ value. view value ≡ movement_data op.now movement.now) }
 {
-    json!(in alloc; {
-        "account": movement.account.as_str(),
-        "isin": movement.isin.as_str(),
-        "op": op,
-        "quantity": movement.quantity
-    })
+    let object = Object::new(alloc)
+        .text("account", movement.account.as_str())?
+        .text("isin", movement.isin.as_str())?
+        .text("op", op)?
+        .number("quantity", movement.quantity)?;
+    Ok(object.into_value())
 }
 
 /// Cash paid in, or paid out.
 fn payment_value(alloc: Global, op: &str, payment: &Payment) -> Result<Value, AllocError>
     ensures { IfOk result (λ value. view value ≡ payment_data op.now payment.now) }
 {
-    json!(in alloc; {
-        "amount": payment.amount,
-        "bic": payment.bic.as_str(),
-        "ccy": payment.ccy.as_str(),
-        "op": op
-    })
+    let object = Object::new(alloc)
+        .number("amount", payment.amount)?
+        .text("bic", payment.bic.as_str())?
+        .text("ccy", payment.ccy.as_str())?
+        .text("op", op)?;
+    Ok(object.into_value())
 }
 
 /// An instruction of a participant.
 fn instruct_value(alloc: Global, instruction: &Instruction) -> Result<Value, AllocError>
     ensures { IfOk result (λ value. view value ≡ instruct_data instruction.now) }
 {
-    let ccy = ccy_value(alloc, instruction.cash)?;
-    json!(in alloc; {
-        "account": instruction.account.as_str(),
-        "amount": amount_value(instruction.cash),
-        "ccy": ccy,
-        "counterparty": instruction.counterparty.as_str(),
-        "day": instruction.day.as_str(),
-        "isin": instruction.isin.as_str(),
-        "kind": instruction.kind.as_str(),
-        "mt": instruction.mt.number(),
-        "op": "instruct",
-        "quantity": instruction.quantity
-    })
+    let object = Object::new(alloc)
+        .text("account", instruction.account.as_str())?
+        .with("amount", Ok(amount_value(instruction.cash)))?
+        .with("ccy", ccy_value(alloc, instruction.cash))?
+        .text("counterparty", instruction.counterparty.as_str())?
+        .text("day", instruction.day.as_str())?
+        .text("isin", instruction.isin.as_str())?
+        .text("kind", instruction.kind.as_str())?
+        .number("mt", u64::from(instruction.mt.number()))?
+        .text("op", "instruct")?
+        .number("quantity", instruction.quantity)?;
+    Ok(object.into_value())
+}
+
+/// A participant that is registered.
+fn participant_value(alloc: Global, bic: &Bic) -> Result<Value, AllocError>
+    ensures { IfOk result (λ value. view value ≡ participant_data bic.now) }
+{
+    let object = Object::new(alloc)
+        .text("bic", bic.as_str())?
+        .text("op", "participant")?;
+    Ok(object.into_value())
+}
+
+/// An account that is registered.
+fn account_value(alloc: Global, bic: &Bic, account: &AccountId) -> Result<Value, AllocError>
+    ensures { IfOk result (λ value. view value ≡ account_data bic.now account.now) }
+{
+    let object = Object::new(alloc)
+        .text("account", account.as_str())?
+        .text("bic", bic.as_str())?
+        .text("op", "account")?;
+    Ok(object.into_value())
+}
+
+/// A security that is registered.
+fn security_value(alloc: Global, isin: &Isin, kind: Kind) -> Result<Value, AllocError>
+    ensures { IfOk result (λ value. view value ≡ security_data isin.now kind) }
+{
+    let object = Object::new(alloc)
+        .text("isin", isin.as_str())?
+        .text("kind", kind.as_str())?
+        .text("op", "security")?;
+    Ok(object.into_value())
+}
+
+/// A participant's order to cancel.
+fn order_value(alloc: Global, order: &CancelOrder) -> Result<Value, AllocError>
+    ensures { IfOk result (λ value. view value ≡ order_data order.now) }
+{
+    let object = Object::new(alloc)
+        .number("mt", u64::from(order.mt.number()))?
+        .text("op", "cancel")?
+        .text("previous", order.previous.as_str())?;
+    Ok(object.into_value())
+}
+
+/// A run.
+fn run_value(alloc: Global, day: &Day) -> Result<Value, AllocError>
+    ensures { IfOk result (λ value. view value ≡ run_data day.now) }
+{
+    let object = Object::new(alloc)
+        .text("day", day.as_str())?
+        .text("op", "run")?;
+    Ok(object.into_value())
 }
 
 /// What an entry asks for.
@@ -123,34 +134,16 @@ fn command_value(alloc: Global, entry: &Entry) -> Result<Value, AllocError>
     ensures { IfOk result (λ value. view value ≡ command_data entry.now) }
 {
     match entry {
-        Entry::Participant { bic, .. } => json!(in alloc; {
-            "bic": bic.as_str(),
-            "op": "participant"
-        }),
-        Entry::Account { bic, account, .. } => json!(in alloc; {
-            "account": account.as_str(),
-            "bic": bic.as_str(),
-            "op": "account"
-        }),
-        Entry::Security { isin, kind, .. } => json!(in alloc; {
-            "isin": isin.as_str(),
-            "kind": kind.as_str(),
-            "op": "security"
-        }),
+        Entry::Participant { bic, .. } => participant_value(alloc, bic),
+        Entry::Account { bic, account, .. } => account_value(alloc, bic, account),
+        Entry::Security { isin, kind, .. } => security_value(alloc, isin, *kind),
         Entry::Issue(movement) => movement_value(alloc, "issue", movement),
         Entry::Redeem(movement) => movement_value(alloc, "redeem", movement),
         Entry::PayIn(payment) => payment_value(alloc, "payin", payment),
         Entry::PayOut(payment) => payment_value(alloc, "payout", payment),
         Entry::Instruct { instruction, .. } => instruct_value(alloc, instruction),
-        Entry::Cancel { order, .. } => json!(in alloc; {
-            "mt": order.mt.number(),
-            "op": "cancel",
-            "previous": order.previous.as_str()
-        }),
-        Entry::Run { day, .. } => json!(in alloc; {
-            "day": day.as_str(),
-            "op": "run"
-        }),
+        Entry::Cancel { order, .. } => order_value(alloc, order),
+        Entry::Run { day, .. } => run_value(alloc, day),
     }
 }
 
@@ -163,23 +156,62 @@ fn settled_value(
 ) -> Result<Value, AllocError>
     ensures { IfOk result (λ value. view value ≡ outcome_data (Outcome.Settled mate run day)) }
 {
-    let day = optional_day(alloc, day)?;
-    json!(in alloc; {
-        "day": day,
-        "entry": optional_number(run),
-        "mate": optional_number(mate),
-        "state": "settled"
-    })
+    let object = Object::new(alloc)
+        .with("day", optional_day(alloc, day))?
+        .with("entry", Ok(optional_number(run)))?
+        .with("mate", Ok(optional_number(mate)))?
+        .text("state", "settled")?;
+    Ok(object.into_value())
 }
 
 /// How a cancellation fares.
 fn cancel_value(alloc: Global, instruction: Option<u64>, state: &str) -> Result<Value, AllocError>
     ensures { IfOk result (λ value. view value ≡ cancel_data instruction state.now) }
 {
-    json!(in alloc; {
-        "instruction": optional_number(instruction),
-        "state": state
-    })
+    let object = Object::new(alloc)
+        .with("instruction", Ok(optional_number(instruction)))?
+        .text("state", state)?;
+    Ok(object.into_value())
+}
+
+/// How what has no more to tell than its state fares.
+fn state_value(alloc: Global, state: &str) -> Result<Value, AllocError>
+    ensures { IfOk result (λ value. view value ≡ state_data state.now) }
+{
+    let object = Object::new(alloc).text("state", state)?;
+    Ok(object.into_value())
+}
+
+/// How a matched instruction fares: its mate, and why the pair waits.
+fn matched_value(alloc: Global, mate: Option<u64>, reason: Reason) -> Result<Value, AllocError>
+    ensures { IfOk result (λ value. view value ≡ outcome_data (Outcome.Matched mate reason)) }
+{
+    let object = Object::new(alloc)
+        .with("mate", Ok(optional_number(mate)))?
+        .text("reason", reason_code(reason))?
+        .text("state", "matched")?;
+    Ok(object.into_value())
+}
+
+/// How a cancelled instruction fares.
+fn cancelled_value(alloc: Global, mate: Option<u64>) -> Result<Value, AllocError>
+    ensures { IfOk result (λ value. view value ≡ outcome_data (Outcome.Cancelled mate)) }
+{
+    let object = Object::new(alloc)
+        .with("mate", Ok(optional_number(mate)))?
+        .text("state", "cancelled")?;
+    Ok(object.into_value())
+}
+
+/// What a run did.
+fn ran_value(alloc: Global, settled: u64, waiting: u64) -> Result<Value, AllocError>
+    ensures { IfOk result (λ value. view value ≡ outcome_data (Outcome.Ran settled waiting)) }
+{
+    let object = Object::new(alloc)
+        .number("settled", settled)?
+        .text("state", "ran")?
+        .number("waiting", waiting)?;
+    Ok(object.into_value())
 }
 
 /// How an entry fares by now.
@@ -187,26 +219,15 @@ fn outcome_value(alloc: Global, outcome: &Outcome) -> Result<Value, AllocError>
     ensures { IfOk result (λ value. view value ≡ outcome_data outcome.now) }
 {
     match outcome {
-        Outcome::Booked => json!(in alloc; { "state": "booked" }),
-        Outcome::Unmatched => json!(in alloc; { "state": "unmatched" }),
-        Outcome::Matched { mate, reason } => json!(in alloc; {
-            "mate": optional_number(*mate),
-            "reason": reason_code(*reason),
-            "state": "matched"
-        }),
+        Outcome::Booked => state_value(alloc, "booked"),
+        Outcome::Unmatched => state_value(alloc, "unmatched"),
+        Outcome::Matched { mate, reason } => matched_value(alloc, *mate, *reason),
         Outcome::Settled { mate, run, day } => settled_value(alloc, *mate, *run, *day),
-        Outcome::Cancelled { mate } => json!(in alloc; {
-            "mate": optional_number(*mate),
-            "state": "cancelled"
-        }),
+        Outcome::Cancelled { mate } => cancelled_value(alloc, *mate),
         Outcome::CancelDone { instruction } => cancel_value(alloc, *instruction, "done"),
         Outcome::CancelWaits { instruction } => cancel_value(alloc, *instruction, "waits"),
         Outcome::CancelLate { instruction } => cancel_value(alloc, *instruction, "late"),
-        Outcome::Ran { settled, waiting } => json!(in alloc; {
-            "settled": *settled,
-            "state": "ran",
-            "waiting": *waiting
-        }),
+        Outcome::Ran { settled, waiting } => ran_value(alloc, *settled, *waiting),
     }
 }
 
@@ -214,11 +235,11 @@ fn outcome_value(alloc: Global, outcome: &Outcome) -> Result<Value, AllocError>
 fn key_value(alloc: Global, key: &MessageKey) -> Result<Value, AllocError>
     ensures { IfOk result (λ value. view value ≡ key_data key.now) }
 {
-    json!(in alloc; {
-        "bic": key.bic.as_str(),
-        "mt": key.mt,
-        "number": key.number
-    })
+    let object = Object::new(alloc)
+        .text("bic", key.bic.as_str())?
+        .number("mt", u64::from(key.mt))?
+        .number("number", key.number)?;
+    Ok(object.into_value())
 }
 
 /// The messages that were sent because of an entry.
@@ -240,19 +261,16 @@ fn journal_value(
 ) -> Result<Value, AllocError>
     ensures { IfOk result (λ value. view value ≡ journal_data row.now messages.now) }
 {
-    let command = command_value(alloc, &row.entry)?;
-    let keys = keys_value(alloc, messages)?;
-    let outcome = outcome_value(alloc, &row.outcome)?;
     let reference = row.entry.reference();
-    let sender = sender_value(alloc, &row.entry.sender())?;
-    json!(in alloc; {
-        "command": command,
-        "messages": keys,
-        "number": row.number,
-        "outcome": outcome,
-        "ref": reference.as_str(),
-        "sender": sender
-    })
+    let sender = row.entry.sender();
+    let object = Object::new(alloc)
+        .with("command", command_value(alloc, &row.entry))?
+        .with("messages", keys_value(alloc, messages))?
+        .number("number", row.number)?
+        .with("outcome", outcome_value(alloc, &row.outcome))?
+        .text("ref", reference.as_str())?
+        .with("sender", sender_value(alloc, &sender))?;
+    Ok(object.into_value())
 }
 
 /// An accepted entry, how it fares by now, and the messages that were sent because of it, as text.

@@ -1,2 +1,3 @@
 mod NameLemmas
+pub mod ObjectLemmas
 pub mod NumberedLemmas

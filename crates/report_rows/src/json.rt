@@ -1,90 +1,48 @@
 //! Rows as JSON.
-ghost use Rattle.std.specs.Prelude.{◌≡◌, ◌++◌, [], map, codes, IfOk, OnOk, List, ℕ, Bool};
+ghost use Rattle.std.specs.Prelude.{◌≡◌, ◌++◌, map, codes, IfOk, OnOk, List, ℕ};
 ghost use Rattle.serde_json.specs.Data.{string, array};
 ghost use Rattle.serde_json.specs.View.{view, items_view, items_of};
-ghost use Rattle.desk_msg.specs.StatusText.{code_of_reason};
-ghost use Rattle.report_rows.specs.RowData.{account_data, amount_data, cash_data, ccy_data, name_if, names_of, nearest_data, number_data, or_null, pending_data, side_data, unmatched_data};
+ghost use Rattle.desk_msg.specs.Profile.{code_of_kind};
+ghost use Rattle.desk_msg.specs.declared.writing.statement_row.StatementRow.{StatementRow as Held};
+ghost use Rattle.report_rows.specs.RowData.{account_data, cash_data, name_if, names_of, nearest_data, number_data, or_null, pending_data, side_data, unmatched_data};
 
 use crate::balances::{AccountRow, CashRow};
+use crate::object::{Object, amount_value, ccy_value, optional_number, reason_code};
 use crate::pending::{PendingPair, Side};
 use crate::unmatched::{Differences, Nearest, UnmatchedInstruction};
-use desk_msg::{Cash, Reason};
-use serde_json::{Value, json};
+use desk_msg::StatementRow;
+use serde_json::Value;
 use std::alloc::{AllocError, Global};
-
-/// A number, or null where there is none.
-fn optional_number(number: Option<u64>) -> Value
-    ensures { view result ≡ or_null number_data number }
-{
-    match number {
-        Some(number) => Value::from(number),
-        None => Value::Null,
-    }
-}
-
-/// The amount of an instruction's cash in minor units; null free of payment.
-fn amount_value(cash: Option<Cash>) -> Value
-    ensures { view result ≡ amount_data cash }
-{
-    match cash {
-        Some(cash) => Value::from(cash.amount),
-        None => Value::Null,
-    }
-}
-
-/// The currency of an instruction's cash; null free of payment.
-fn ccy_value(alloc: Global, cash: Option<Cash>) -> Result<Value, AllocError>
-    ensures { IfOk result (λ value. view value ≡ ccy_data cash) }
-{
-    match cash {
-        Some(cash) => Value::try_from_str(alloc, cash.ccy.as_str()),
-        None => Ok(Value::Null),
-    }
-}
-
-/// The reason code of a pair that waits, four letters (ISO 15022, field 24B).
-pub fn reason_code(reason: Reason) -> &'static str
-    ensures { result.now ≡ code_of_reason reason }
-{
-    match reason {
-        Reason::Future => "FUTU",
-        Reason::Lack => "LACK",
-        Reason::Money => "MONY",
-    }
-}
 
 /// A side of a pair.
 fn side_value(alloc: Global, side: &Side) -> Result<Value, AllocError>
     ensures { IfOk result (λ value. view value ≡ side_data side.now) }
 {
-    json!(in alloc; {
-        "account": side.account.as_str(),
-        "bic": side.bic.as_str(),
-        "cancel": side.is_cancel_requested,
-        "number": side.number,
-        "ref": side.reference.as_str()
-    })
+    let object = Object::new(alloc)
+        .text("account", side.account.as_str())?
+        .text("bic", side.bic.as_str())?
+        .with("cancel", Ok(Value::from(side.is_cancel_requested)))?
+        .number("number", side.number)?
+        .text("ref", side.reference.as_str())?;
+    Ok(object.into_value())
 }
 
 /// A pair that waits.
 pub fn pending_value(alloc: Global, row: &PendingPair) -> Result<Value, AllocError>
     ensures { IfOk result (λ value. view value ≡ pending_data row.now) }
 {
-    let ccy = ccy_value(alloc, row.cash)?;
-    let deliverer = side_value(alloc, &row.deliverer)?;
-    let receiver = side_value(alloc, &row.receiver)?;
-    json!(in alloc; {
-        "amount": amount_value(row.cash),
-        "ccy": ccy,
-        "day": row.day.as_str(),
-        "deliverer": deliverer,
-        "isin": row.isin.as_str(),
-        "kind": row.kind.as_str(),
-        "lacking": optional_number(row.lacking),
-        "quantity": row.quantity,
-        "reason": reason_code(row.reason),
-        "receiver": receiver
-    })
+    let object = Object::new(alloc)
+        .with("amount", Ok(amount_value(row.cash)))?
+        .with("ccy", ccy_value(alloc, row.cash))?
+        .text("day", row.day.as_str())?
+        .with("deliverer", side_value(alloc, &row.deliverer))?
+        .text("isin", row.isin.as_str())?
+        .text("kind", row.kind.as_str())?
+        .with("lacking", Ok(optional_number(row.lacking)))?
+        .number("quantity", row.quantity)?
+        .text("reason", reason_code(row.reason))?
+        .with("receiver", side_value(alloc, &row.receiver))?;
+    Ok(object.into_value())
 }
 
 /// Adds a name, where it applies.
@@ -123,12 +81,11 @@ fn nearest_value(alloc: Global, nearest: &Option<Nearest>) -> Result<Value, Allo
     let Some(nearest) = nearest else {
         return Ok(Value::Null);
     };
-    let differs = names_value(alloc, &nearest.differs)?;
-    json!(in alloc; {
-        "differs": differs,
-        "number": nearest.number,
-        "ref": nearest.reference.as_str()
-    })
+    let object = Object::new(alloc)
+        .with("differs", names_value(alloc, &nearest.differs))?
+        .number("number", nearest.number)?
+        .text("ref", nearest.reference.as_str())?;
+    Ok(object.into_value())
 }
 
 /// An unmatched instruction.
@@ -136,54 +93,73 @@ pub fn unmatched_value(alloc: Global, row: &UnmatchedInstruction) -> Result<Valu
     ensures { IfOk result (λ value. view value ≡ unmatched_data row.now) }
 {
     let instruction = &row.instructed.instruction;
-    let ccy = ccy_value(alloc, instruction.cash)?;
-    let nearest = nearest_value(alloc, &row.nearest)?;
-    json!(in alloc; {
-        "account": instruction.account.as_str(),
-        "amount": amount_value(instruction.cash),
-        "bic": row.instructed.sender.as_str(),
-        "ccy": ccy,
-        "counterparty": instruction.counterparty.as_str(),
-        "day": instruction.day.as_str(),
-        "isin": instruction.isin.as_str(),
-        "kind": instruction.kind.as_str(),
-        "mt": instruction.mt.number(),
-        "nearest": nearest,
-        "number": row.number,
-        "quantity": instruction.quantity,
-        "ref": instruction.reference.as_str()
-    })
+    let object = Object::new(alloc)
+        .text("account", instruction.account.as_str())?
+        .with("amount", Ok(amount_value(instruction.cash)))?
+        .text("bic", row.instructed.sender.as_str())?
+        .with("ccy", ccy_value(alloc, instruction.cash))?
+        .text("counterparty", instruction.counterparty.as_str())?
+        .text("day", instruction.day.as_str())?
+        .text("isin", instruction.isin.as_str())?
+        .text("kind", instruction.kind.as_str())?
+        .number("mt", u64::from(instruction.mt.number()))?
+        .with("nearest", nearest_value(alloc, &row.nearest))?
+        .number("number", row.number)?
+        .number("quantity", instruction.quantity)?
+        .text("ref", instruction.reference.as_str())?;
+    Ok(object.into_value())
+}
+
+/// The security that is held; null where none is.
+fn isin_value(alloc: Global, holding: Option<StatementRow>) -> Result<Value, AllocError>
+    ensures { IfOk result (λ value. view value ≡ or_null (λ (held : Held). string held.isin) holding) }
+{
+    match holding {
+        Some(held) => Value::try_from_str(alloc, held.isin.as_str()),
+        None => Ok(Value::Null),
+    }
+}
+
+/// How it is counted; null where none is held.
+fn kind_value(alloc: Global, holding: Option<StatementRow>) -> Result<Value, AllocError>
+    ensures { IfOk result (λ value. view value ≡ or_null (λ (held : Held). string (code_of_kind held.kind)) holding) }
+{
+    match holding {
+        Some(held) => Value::try_from_str(alloc, held.kind.as_str()),
+        None => Ok(Value::Null),
+    }
+}
+
+/// How much of it is held; null where none is.
+fn quantity_value(holding: Option<StatementRow>) -> Value
+    ensures { view result ≡ or_null (λ (held : Held). number_data held.quantity) holding }
+{
+    match holding {
+        Some(held) => Value::from(held.quantity),
+        None => Value::Null,
+    }
 }
 
 /// What an account holds of a security, or that it holds nothing.
 pub fn account_value(alloc: Global, row: &AccountRow) -> Result<Value, AllocError>
     ensures { IfOk result (λ value. view value ≡ account_data row.now) }
 {
-    match row.holding {
-        Some(held) => json!(in alloc; {
-            "account": row.account.as_str(),
-            "isin": held.isin.as_str(),
-            "kind": held.kind.as_str(),
-            "owner": row.owner.as_str(),
-            "quantity": held.quantity
-        }),
-        None => json!(in alloc; {
-            "account": row.account.as_str(),
-            "isin": null,
-            "kind": null,
-            "owner": row.owner.as_str(),
-            "quantity": null
-        }),
-    }
+    let object = Object::new(alloc)
+        .text("account", row.account.as_str())?
+        .with("isin", isin_value(alloc, row.holding))?
+        .with("kind", kind_value(alloc, row.holding))?
+        .text("owner", row.owner.as_str())?
+        .with("quantity", Ok(quantity_value(row.holding)))?;
+    Ok(object.into_value())
 }
 
 /// What a participant has of a currency.
 pub fn cash_value(alloc: Global, row: &CashRow) -> Result<Value, AllocError>
     ensures { IfOk result (λ value. view value ≡ cash_data row.now) }
 {
-    json!(in alloc; {
-        "amount": row.amount,
-        "bic": row.bic.as_str(),
-        "ccy": row.ccy.as_str()
-    })
+    let object = Object::new(alloc)
+        .number("amount", row.amount)?
+        .text("bic", row.bic.as_str())?
+        .text("ccy", row.ccy.as_str())?;
+    Ok(object.into_value())
 }

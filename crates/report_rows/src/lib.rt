@@ -3,12 +3,13 @@
 //!
 //! Begin with `PendingPair` in `pending.rt`, `UnmatchedInstruction` in `unmatched.rt` and `AccountRow` and `CashRow` in
 //! `balances.rt`. What a row is as JSON says specs/RowData.antt; `write_pending_pair` and its like write one, of which
-//! specs/RowWritten.antt speaks.
+//! specs/RowWritten.antt speaks. An `Object` is made member by member (`object.rt`).
 #![tactic(auto)]
 
 mod balances;
 mod format;
 mod json;
+mod object;
 mod pending;
 mod text;
 mod unmatched;
@@ -16,6 +17,7 @@ mod writing;
 
 pub use balances::{AccountRow, CashRow};
 pub use format::Format;
+pub use object::{Object, amount_value, ccy_value, optional_number, reason_code};
 pub use pending::{PendingPair, Side};
 pub use unmatched::{Differences, Nearest, UnmatchedInstruction};
 pub use writing::{

@@ -2,7 +2,7 @@
 ghost use Rattle.std.specs.Prelude.{◌≤◌};
 
 use crate::balances::{AccountRow, CashRow};
-use crate::json::reason_code;
+use crate::object::reason_code;
 use crate::pending::{PendingPair, Side};
 use crate::unmatched::{Differences, Nearest, UnmatchedInstruction};
 use desk_book::{CashTotal, SecurityTotal};
