@@ -49,11 +49,22 @@ pub fn play_days(
     digest: &mut Digest,
 ) -> Result<(), Failure> {
     for depository in &[SMALL, LARGE] {
-        let mut day = Day::new(alloc, *depository, Draw::new(seed, round))?;
-        let mut desk = new_desk(alloc);
-        play_day(alloc, &mut desk, &mut day, size.of(60_000), digest)?;
+        play_one(alloc, *depository, Draw::new(seed, round), size, digest)?;
     }
     Ok(())
+}
+
+/// Plays a day from its beginning.
+fn play_one(
+    alloc: Global,
+    depository: Depository,
+    draw: Draw,
+    size: Size,
+    digest: &mut Digest,
+) -> Result<(), Failure> {
+    let mut day = Day::new(alloc, depository, draw)?;
+    let mut desk = new_desk(alloc);
+    play_day(alloc, &mut desk, &mut day, size.of(60_000), digest)
 }
 
 /// Plays so many requests of a day, in scripts.
