@@ -24,22 +24,32 @@ pub fn try_files(
     response: &str,
     setup: Option<&str>,
 ) -> Result<bool, Failure> {
-    let routes = Routes::new(rt.alloc())?;
     let sent: Vec<u8> = fs::read(rt, sent)?;
     let response: Vec<u8> = fs::read(rt, response)?;
     let setup: Vec<u8> = match setup {
         Some(path) => fs::read(rt, path)?,
         None => Vec::new(rt.alloc()),
     };
+    tell(rt, tried(rt.alloc(), &sent, &response, &setup))
+}
+
+/// Tries what is sent in every way.
+fn tried(alloc: Global, sent: &[u8], response: &[u8], setup: &[u8]) -> Result<Counts, Failure> {
+    let routes = Routes::new(alloc)?;
     let exchange = Exchange {
         routes: &routes,
-        sent: &sent,
-        response: &response,
-        setup: &setup,
+        sent,
+        response,
+        setup,
     };
-    let counts = exchange.tried(rt.alloc())?;
-    println!(rt; "{} passed, {} failed", counts.passed, counts.failed)?;
-    Ok(counts.failed == 0)
+    exchange.tried(alloc)
+}
+
+/// Prints how many ways passed. Whether all did.
+fn tell(rt: &impl Print, counts: Result<Counts, Failure>) -> Result<bool, Failure> {
+    let Counts { passed, failed } = counts?;
+    println!(rt; "{passed} passed, {failed} failed")?;
+    Ok(failed == 0)
 }
 
 /// How many ways passed, and how many did not.
