@@ -8,8 +8,8 @@ use Rattle.desk_engine.specs.KeptHistory.{HoldsKept}
 use Rattle.sql_tables.specs.Ends.{HasLooked, IfSound, IsSame}
 use Rattle.sql_tables.specs.Ends.{IsLater as IsLaterState}
 use Rattle.sql_tables.specs.Schema.{desk_schema}
-use Rattle.sql_opening.specs.Forms.{AreAllFormed}
-use Rattle.sql_opening.specs.Order.{AreInOrder}
+use Rattle.sql_tables.specs.Forms.{AreAllFormed}
+use Rattle.sql_tables.specs.Order.{AreInOrder}
 
 -- rows that stand in order and have the form of their tables, beside an accepted history
 pub record IsAccepted (db : Database) (limit : ℕ) (content : Content) : Type 0 where

@@ -24,7 +24,7 @@ use Rattle.desk_holdings.proofs.AboveLemmas.{registered}
 use Rattle.desk_holdings.proofs.RegisteredLemmas.{holds_registered}
 use Rattle.sql_amounts.specs.declared.key.AmountKey.{AmountKey}
 use Rattle.sql_amounts.specs.declared.key.AmountKey.TheVariants as keys
-use Rattle.audit_amounts.specs.Said.{HasReadable, IsReadable, IsSaid}
+use Rattle.sql_amounts.specs.Said.{HasReadable, IsReadable, IsSaid}
 use Rattle.audit_desk.proofs.ContentFacts.{h_is, stranger_has_none, stranger_holds_none}
 
 abbrev Each : List Entry → Type 0

@@ -14,12 +14,12 @@ use Rattle.desk_engine.specs.KeptHistory.{HoldsKept}
 use Rattle.sql_amounts.specs.declared.key.AmountKey.TheVariants as keys
 use Rattle.sql_tables.specs.Schema.{desk_schema}
 use Rattle.sql_tables.specs.Version.{HasVersion}
-use Rattle.audit_amounts.specs.Said.{HasNoStranger}
-use Rattle.audit_rows.specs.declared.fault.AuditFault.{AuditFault}
+use Rattle.sql_amounts.specs.Said.{HasNoStranger}
+use Rattle.sql_tables.specs.declared.fault.AuditFault.{AuditFault}
 use Rattle.audit_desk.specs.declared.auditing.Audited.{Audited}
 use Rattle.audit_desk.specs.declared.auditing.Audited.TheVariants.{Whole}
-use Rattle.audit_entries.specs.Reading.{IsRead}
-use Rattle.audit_standings.specs.Standings.{StandsWithin}
+use Rattle.audit_desk.specs.Reading.{IsRead}
+use Rattle.sql_standings.specs.Told.{StandsWithin}
 use Rattle.audit_desk.specs.Audited.{IsAudited, IsFilled, SaysRest}
 use Rattle.audit_desk.specs.Parts.{HasParts}
 use Rattle.audit_desk.proofs.ContentFacts.{stands_nowhere, stranger_has_none, stranger_holds_none}

@@ -7,9 +7,9 @@ use Rattle.desk_engine.specs.KeptHistory.{HoldsKept}
 use Rattle.sql_register.specs.Holds.{Becomes}
 use Rattle.sql_sent.specs.Messages.{AreSent}
 use Rattle.sql_tables.specs.Version.{HasVersion}
-use Rattle.audit_amounts.specs.Said.{HasAmounts}
-use Rattle.audit_entries.specs.Reading.{IsRead}
-use Rattle.audit_standings.specs.Standings.{SaysStandings}
+use Rattle.sql_amounts.specs.Said.{HasAmounts}
+use Rattle.audit_desk.specs.Reading.{IsRead}
+use Rattle.sql_standings.specs.Told.{SaysStandings}
 
 -- The database is the desk's tables of this version, and says this content; and a register that holds the content has taken each
 -- of its entries, all well formed, in its turn, and gave each the reply that is kept.

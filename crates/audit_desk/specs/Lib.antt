@@ -1,2 +1,4 @@
 pub mod Audited
 pub mod Parts
+pub mod Reading
+pub mod Taking

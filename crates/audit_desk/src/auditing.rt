@@ -9,18 +9,20 @@ ghost use Rattle.desk_rules.specs.declared.limits.TheConstants.{MOST_ENTRIES};
 ghost use Rattle.sql_tables.specs.Calls.{Soundly, tables};
 ghost use Rattle.sql_tables.specs.Making.{KeepsCommitted};
 ghost use Rattle.sql_tables.specs.Schema.{desk_schema};
-ghost use Rattle.sql_opening.specs.Forms.{AreAllFormed};
-ghost use Rattle.sql_opening.specs.Order.{AreInOrder};
-ghost use Rattle.audit_rows.specs.Audits.{of_register, Audits};
-ghost use Rattle.audit_entries.specs.Reading.{HoldsFormed};
-ghost use Rattle.audit_entries.specs.Taking.{BlamesTaking};
+ghost use Rattle.sql_tables.specs.Forms.{AreAllFormed};
+ghost use Rattle.sql_tables.specs.Order.{AreInOrder};
+ghost use Rattle.sql_tables.specs.Audits.{of_register, Audits};
+ghost use Rattle.audit_desk.specs.Reading.{HoldsFormed};
+ghost use Rattle.audit_desk.specs.Taking.{BlamesTaking};
 ghost use Rattle.audit_desk.specs.Audited.{IsAudited, IsFilled};
 
+use crate::progress::Progress;
+use crate::register::{Reading, read_register};
 use crate::rest::{Table, first_other};
-use audit_entries::{Progress, Reading, has_version, read_register};
-use audit_rows::AuditFault;
 use desk_register::{Messages, Stage};
 use sql_opening::has_desk_tables;
+use sql_tables::compared::has_version;
+use sql_tables::fault::AuditFault;
 use sqlite::{Alter, Connection};
 use std::alloc::Global;
 

@@ -6,16 +6,16 @@ ghost use Rattle.desk_rules.specs.WellFormed.{AreWellFormed};
 ghost use Rattle.desk_engine.specs.KeptHistory.{HoldsKept};
 ghost use Rattle.sql_tables.specs.Calls.{Soundly, tables};
 ghost use Rattle.sql_tables.specs.Schema.{desk_schema};
-ghost use Rattle.sql_opening.specs.Forms.{AreAllFormed};
-ghost use Rattle.sql_opening.specs.Order.{AreInOrder};
-ghost use Rattle.audit_rows.specs.Audits.{Audits, Consults};
+ghost use Rattle.sql_tables.specs.Forms.{AreAllFormed};
+ghost use Rattle.sql_tables.specs.Order.{AreInOrder};
+ghost use Rattle.sql_tables.specs.Audits.{Audits, Consults};
 ghost use Rattle.audit_desk.specs.Audited.{SaysRest};
 
-use audit_amounts::has_amounts;
-use audit_rows::AuditFault;
-use audit_sent::has_sent;
-use audit_standings::has_standings;
 use desk_register::{Messages, Stage};
+use sql_amounts::has_amounts;
+use sql_sent::has_sent;
+use sql_standings::has_standings;
+use sql_tables::fault::AuditFault;
 use sqlite::{Alter, Connection};
 use std::alloc::Global;
 

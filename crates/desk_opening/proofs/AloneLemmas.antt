@@ -8,7 +8,7 @@ use Rattle.sqlite_wal.specs.Recovery.{Image}
 use Rattle.memory_register.specs.ListsView.{view_of_lists}
 use Rattle.memory_register.specs.declared.list_register.ListRegister.{ListRegister}
 use Rattle.desk_mirror.specs.Both.{Both}
-use Rattle.audit_entries.specs.Reading.{HoldsFormed}
+use Rattle.audit_desk.specs.Reading.{HoldsFormed}
 use Rattle.sql_register.specs.Content.{content_in}
 use Rattle.sql_register.specs.Kept.{shown, Kept}
 use Rattle.desk_opening.specs.Alone.{AreFoundIn, AreFoundOf, AreOpened, IsAlone}

@@ -12,8 +12,8 @@ use Rattle.desk_register.specs.declared.register.Stage.TheVariants.{Idle}
 use Rattle.desk_engine.proofs.KeptHistoryLemmas.{holds_none}
 use Rattle.desk_rules.specs.Content.{Content}
 use Rattle.audit_desk.specs.Audited.{IsAudited}
-use Rattle.audit_entries.specs.Reading.{HoldsFormed}
-use Rattle.audit_entries.proofs.ReadingLemmas.{none_formed}
+use Rattle.audit_desk.specs.Reading.{HoldsFormed}
+use Rattle.audit_desk.proofs.ReadingLemmas.{none_formed}
 use Rattle.sql_register.specs.Holds.{Becomes}
 use Rattle.sql_register.specs.Kept.{Kept}
 use Rattle.sql_tables.specs.Version.{HasVersion}

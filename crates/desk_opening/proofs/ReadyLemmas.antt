@@ -10,7 +10,7 @@ use Rattle.desk_mirror.specs.Both.{Both}
 use Rattle.desk_register.specs.View.{View}
 use Rattle.desk_register.specs.declared.register.Stage.TheVariants.{Idle}
 use Rattle.desk_rules.specs.WellFormed.{AreWellFormed}
-use Rattle.audit_entries.specs.Reading.{HoldsFormed}
+use Rattle.audit_desk.specs.Reading.{HoldsFormed}
 use Rattle.sql_register.specs.Kept.{Kept}
 use Rattle.desk_opening.specs.Opened.{view_of_both, IsReadyFor}
 

@@ -10,7 +10,7 @@ use Rattle.sqlite_trees.specs.Objects.{catalog_tree, IsListed}
 use Rattle.sqlite_trees.specs.Tree.{Trees}
 use Rattle.sqlite_trees.specs.View.{View, IsClean, IsOrdered, IsQuiet, IsRolledBack}
 use Rattle.sqlite_trees.specs.declared.store.Shape.{Shape}
-use Rattle.sql_opening.specs.Order.{AreInOrder}
+use Rattle.sql_tables.specs.Order.{AreInOrder}
 use Rattle.sql_opening.proofs.OrderLemmas.{in_shape}
 
 -- ---- a store that was rolled back

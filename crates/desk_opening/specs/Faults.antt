@@ -5,8 +5,8 @@ use Rattle.sqlite.specs.declared.error.Error.TheVariants.{SqliteFailure}
 use Rattle.sqlite.specs.declared.error.ErrorCode.TheVariants.{DatabaseCorrupt, NoRowid, NotADatabase, OutOfMemory, TooBig}
 use Rattle.desk_register.specs.declared.register.Fault.{Fault}
 use Rattle.desk_register.specs.declared.register.Fault.TheVariants as register
-use Rattle.audit_rows.specs.declared.fault.AuditFault.{AuditFault}
-use Rattle.audit_rows.specs.declared.fault.AuditFault.TheVariants.{Register, Tables}
+use Rattle.sql_tables.specs.declared.fault.AuditFault.{AuditFault}
+use Rattle.sql_tables.specs.declared.fault.AuditFault.TheVariants.{Register, Tables}
 use Rattle.desk_opening.specs.declared.fault.Difference.TheVariants.{NoDatabase}
 use Rattle.desk_opening.specs.declared.fault.OpenFault.{OpenFault}
 use Rattle.desk_opening.specs.declared.fault.OpenFault.TheVariants.{NotOurFile, OtherVersion, Memory, Storage}

@@ -16,12 +16,12 @@ use Rattle.desk_engine.specs.Ready.{IsReady}
 use Rattle.memory_register.specs.ListsView.{view_of_lists}
 use Rattle.memory_register.specs.declared.list_register.ListRegister.{ListRegister}
 use Rattle.desk_mirror.specs.Both.{Both, shown}
-use Rattle.sql_opening.specs.Order.{AreInOrder}
+use Rattle.sql_tables.specs.Order.{AreInOrder}
 use Rattle.sql_register.specs.Holds.{Becomes}
 use Rattle.sql_register.specs.Kept.{Kept, view_of}
 use Rattle.sql_tables.specs.Schema.{no_schema}
 use Rattle.audit_desk.specs.Audited.{IsAudited}
-use Rattle.audit_entries.specs.Reading.{HoldsFormed}
+use Rattle.audit_desk.specs.Reading.{HoldsFormed}
 
 -- A connection as it is after it was opened: nothing is under way, and the rows stand in the order of their numbers.
 pub record StandsOpen (s : State) : Type 0 where

@@ -3,8 +3,8 @@ ghost use Rattle.std.specs.Prelude.{◌≡◌};
 ghost use Rattle.desk_opening.specs.Faults.{audit_fault_for, fault_for, files_fault_for, number_of_fault};
 
 use audit_desk::Table;
-use audit_rows::AuditFault;
 use desk_register::Fault;
+use sql_tables::fault::AuditFault;
 use sqlite::{Error, ErrorCode};
 
 /// In what a database differs from those of the desk. Of several differences one is told.

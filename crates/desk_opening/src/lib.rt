@@ -14,8 +14,7 @@ mod tables;
 mod taking;
 mod version;
 
-pub use audit_desk::Table;
-pub use audit_entries::{Progress, Silent};
+pub use audit_desk::{Progress, Silent, Table};
 pub use fault::{Difference, OpenFault};
 pub use laws::{found_again, is_live};
 pub use opening::{adopt, open_file};

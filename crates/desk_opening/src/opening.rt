@@ -12,7 +12,7 @@ ghost use Rattle.desk_opening.specs.Opened.{Finds, FindsIn, IsHandedBack, IsOpen
 use crate::fault::{OpenFault, fault_of, fault_of_files};
 use crate::reopening::{give_up, reopen};
 use crate::taking::take_over;
-use audit_entries::{Progress, Silent};
+use audit_desk::{Progress, Silent};
 use desk_mirror::MirroredRegister;
 use memory_register::ListRegister;
 use sql_opening::open_in_order;

@@ -10,7 +10,7 @@ ghost use Rattle.desk_opening.specs.Opened.{IsHandedBack};
 
 use crate::fault::OpenFault;
 use crate::opening::{adopt, open_file};
-use audit_entries::Silent;
+use audit_desk::Silent;
 use desk_mirror::MirroredRegister;
 use memory_register::ListRegister;
 use sql_register::SqlRegister;

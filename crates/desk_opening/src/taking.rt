@@ -11,8 +11,7 @@ ghost use Rattle.desk_opening.specs.Spared.{Spares};
 
 use crate::fault::{Difference, OpenFault, fault_of, fault_of_audit};
 use crate::version::says_other_version;
-use audit_desk::{Audited, audit};
-use audit_entries::Progress;
+use audit_desk::{Audited, Progress, audit};
 use desk_mirror::MirroredRegister;
 use memory_register::ListRegister;
 use sql_register::{SqlRegister, has_no_table};

@@ -7,3 +7,9 @@ pub mod AmountLemmas
 pub mod ClauseLemmas
 pub mod PermutationLemmas
 pub mod CauseLemmas
+mod EntryLemmas
+mod FormLemmas
+mod ComparedRows
+mod SaidLemmas
+mod TextLemmas
+pub mod WalkLemmas

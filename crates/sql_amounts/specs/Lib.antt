@@ -4,3 +4,6 @@ pub mod Amounts
 pub mod Changes
 pub mod Holdings
 pub mod Held
+pub mod Recorded
+pub mod Said
+pub mod Shown

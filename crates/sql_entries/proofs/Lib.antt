@@ -1,5 +1,6 @@
 pub mod AddLemmas
 pub mod CauseLemmas
+mod ComparedRows
 pub mod EffectLemmas
 pub mod EntryLemmas
 pub mod FindingTexts

@@ -4,3 +4,5 @@ pub mod Filled
 pub mod Shown
 pub mod Reading
 pub mod Opposites
+pub mod Found
+pub mod Rows

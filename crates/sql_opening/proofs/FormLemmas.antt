@@ -22,8 +22,8 @@ use Rattle.sqlite_schema.specs.Rules.{agree, are_present, are_typed, clashes, di
 use Rattle.sqlite_sql.specs.Ops.{is_null, is_true, from_truth, test}
 use Rattle.sqlite_sql.specs.declared.ops.CompareOp.TheVariants.{Ne}
 use Rattle.sql_tables.specs.Schema.{desk_indexes, desk_schema, desk_tables, balance_table, cash_table, total_table, register_table, state_table, sent_table, version_table}
-use Rattle.sql_opening.specs.Forms.{AreAllFormed, AreValues, HasForm, MayStand}
-use Rattle.sql_opening.specs.Order.{AreInOrder}
+use Rattle.sql_tables.specs.Forms.{AreAllFormed, AreValues, HasForm, MayStand}
+use Rattle.sql_tables.specs.Order.{AreInOrder}
 
 -- ---- one value
 

@@ -18,7 +18,7 @@ use Rattle.sqlite_store.specs.declared.catalog.Wanted.{Wanted}
 use Rattle.sqlite_store.specs.Listing.{IsOurs, file_trees, all_shapes, all_reals}
 use Rattle.sqlite_store.specs.Listed.{catalog_rows, is_listed}
 use Rattle.sqlite_store.proofs.ListingLemmas.{all_ordered}
-use Rattle.sql_opening.specs.Order.{AreInOrder}
+use Rattle.sql_tables.specs.Order.{AreInOrder}
 
 -- trees in the shapes that they are listed by
 pub in_shape : (shapes : ℕ → Shape) (reals : ℕ → ℕ) (schema : Schema) (trees : Trees) → IsListed (trees catalog_tree) shapes reals → IsOrdered shapes trees → Lists (trees catalog_tree) schema → AreInOrder schema trees

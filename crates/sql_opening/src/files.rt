@@ -6,7 +6,7 @@ ghost use Rattle.sqlite.specs.Files.{file_state, IsOpened};
 ghost use Rattle.sqlite.specs.Held.{IsNew};
 ghost use Rattle.sqlite.specs.Opening.{is_open_error};
 ghost use Rattle.sqlite.specs.Start.{FindsIn};
-ghost use Rattle.sql_opening.specs.Order.{AreInOrder};
+ghost use Rattle.sql_tables.specs.Order.{AreInOrder};
 
 use sqlite::{Connection, Error, FileFrom, FileStore, Leftover, Start};
 use std::rt::HostRuntime;

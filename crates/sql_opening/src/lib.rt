@@ -2,8 +2,8 @@
 //!
 //! `is_desk` says of a schema whether it is the literal of specs/Schema.antt in `sql_tables`, and nothing else: `ours.rt` has
 //! the tables and the indexes as they are told, `tables.rt`, `columns.rt` and `checks.rt` compare. `open_in_order` opens a
-//! file, whose rows then stand in order (specs/Order.antt); of a database whose schema is the desk's `has_desk_tables` says
-//! what its rows are (specs/Forms.antt). Begin with `ours.rt`.
+//! file, whose rows then stand in order (specs/Order.antt of `sql_tables`); of a database whose schema is the desk's
+//! `has_desk_tables` says what its rows are (specs/Forms.antt there). Begin with `ours.rt`.
 #![tactic(auto)]
 
 mod checks;

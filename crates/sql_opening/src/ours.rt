@@ -2,8 +2,8 @@
 ghost use Rattle.std.specs.Prelude.{◌≡◌, ◌↔◌, IsTrue};
 ghost use Rattle.sqlite.specs.Held.{state};
 ghost use Rattle.sql_tables.specs.Schema.{desk_indexes, desk_schema, desk_tables};
-ghost use Rattle.sql_opening.specs.Forms.{AreAllFormed};
-ghost use Rattle.sql_opening.specs.Order.{AreInOrder};
+ghost use Rattle.sql_tables.specs.Forms.{AreAllFormed};
+ghost use Rattle.sql_tables.specs.Order.{AreInOrder};
 
 use crate::columns::WantedColumn::{self, Number, Optional, Text};
 use crate::tables::{WantedIndex, WantedTable, are_indexes, are_tables};

@@ -1,4 +1,6 @@
 pub mod CauseLemmas
+mod ComparedRows
+mod ComparedTable
 pub mod InsertLemmas
 pub mod LookedLemmas
 pub mod MessageLemmas

@@ -4,10 +4,17 @@
 //! that order. No index lists the messages to one participant: the one of a place among them is found by walking from each to
 //! the next, and a confirmation by walking the table. A call fails as its statements do (`statement.rt` of `sql_tables`), and
 //! with DatabaseCorrupt where a row says nothing that the table would say. Begin with specs/Messages.antt.
+//!
+//! `has_sent` in `compared.rt` says whether the table is exactly the list of what a register in memory has sent; a register
+//! or a device that fails is told as that (specs/Audits.antt of `sql_tables`). Each number has one look-up, of the whole row
+//! (`compared/rows.rt`), so that no more than one row is in memory at a time; the register, one of `Messages` of
+//! `desk_register`, gives the message by its number.
 #![tactic(auto)]
 
+mod compared;
 mod counting;
 mod messages;
 mod reading;
 
+pub use compared::has_sent;
 pub use messages::{add_sent, confirmation_of, sent_at, sent_count};

@@ -1,14 +1,19 @@
 pub mod BlameLemmas
+pub mod ByNumberLemmas
 pub mod CallLemmas
 pub mod ColumnLemmas
+mod ComparedVersion
 pub mod ControlLemmas
 pub mod EditLemmas
 pub mod EndLemmas
 pub mod LookLemmas
 pub mod MadeLemmas
 pub mod MakingLemmas
+pub mod NumberedLemmas
 pub mod QueryLemmas
 pub mod ResultLemmas
+pub mod RowLemmas
+pub mod ShownLemmas
 pub mod StatementLemmas
 pub mod UniqueLemmas
 pub mod ValueLemmas

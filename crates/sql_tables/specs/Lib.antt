@@ -8,3 +8,10 @@ pub mod Calls
 pub mod CashColumns
 pub mod Rows
 pub mod Version
+pub mod Audits
+pub mod ByNumber
+pub mod Numbered
+pub mod Plain
+pub mod Whole
+pub mod Forms
+pub mod Order

@@ -5,8 +5,8 @@ use Rattle.sqlite.specs.Schema.{Schema}
 use Rattle.sqlite.specs.State.{HasCleanDisk}
 use Rattle.sql_tables.specs.Ends.{IsSame}
 use Rattle.sql_tables.specs.Schema.{desk_schema}
-use Rattle.sql_opening.specs.Forms.{AreAllFormed}
-use Rattle.sql_opening.specs.Order.{AreInOrder}
+use Rattle.sql_tables.specs.Forms.{AreAllFormed}
+use Rattle.sql_tables.specs.Order.{AreInOrder}
 use Rattle.audit_desk.proofs.RestLemmas.{audit_whole}
 use Rattle.audit_desk.proofs.auditing.audit.Goals as goal
 

@@ -3,7 +3,7 @@ use Rattle.sqlite.specs.Effect.{Database}
 use Rattle.sqlite.specs.Held.{state}
 use Rattle.sqlite.specs.State.{HasCleanDisk}
 use Rattle.sql_tables.specs.Ends.{IsSame}
-use Rattle.audit_entries.specs.Reading.{HoldsFormed}
+use Rattle.audit_desk.specs.Reading.{HoldsFormed}
 use Rattle.audit_desk.proofs.GoneLemmas.{again, IsAccepted}
 use Rattle.audit_desk.proofs.RestLemmas.{filled}
 use Rattle.audit_desk.proofs.auditing.fill.Goals as goal

@@ -5,8 +5,8 @@ use Rattle.sqlite.specs.Held.{state}
 use Rattle.sqlite.specs.State.{HasCleanDisk}
 use Rattle.desk_rules.specs.Content.{Content}
 use Rattle.sql_sent.specs.Messages.{AreSent}
-use Rattle.audit_amounts.specs.Said.{HasAmounts, HasReadable}
-use Rattle.audit_amounts.proofs.WalkLemmas.{found_so}
+use Rattle.sql_amounts.specs.Said.{HasAmounts, HasReadable}
+use Rattle.sql_amounts.proofs.WalkLemmas.{found_so}
 use Rattle.desk_register.specs.View.{HasRead}
 use Rattle.sql_tables.specs.Ends.{HasLooked}
 use Rattle.sql_tables.proofs.LookLemmas.{look_more}

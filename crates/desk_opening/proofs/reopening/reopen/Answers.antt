@@ -2,7 +2,7 @@ use Rattle.std.proofs.Common.{◌≡◌, ◌∙◌, arith, false, sym, subst, Is
 use Rattle.sqlite.specs.Effect.{Database}
 use Rattle.sqlite.specs.Held.{state}
 use Rattle.sqlite_trees.specs.View.{IsClean}
-use Rattle.sql_opening.specs.Order.{AreInOrder}
+use Rattle.sql_tables.specs.Order.{AreInOrder}
 use Rattle.desk_opening.proofs.ReopenLemmas.{committed_back, committed_stays, in_order, joined_err, joined_ok, same_database, trees_back, was_open, whole_is_open}
 use Rattle.desk_opening.proofs.reopening.reopen.Goals as goal
 

@@ -4,7 +4,7 @@ use Rattle.sqlite.specs.State.{HasCleanDisk}
 use Rattle.memory_register.specs.ListsView.{view_of_lists}
 use Rattle.desk_engine.proofs.KeptHistoryLemmas.{holds_none}
 use Rattle.audit_desk.specs.Audited.{IsAudited}
-use Rattle.audit_entries.specs.Reading.{HoldsFormed}
+use Rattle.audit_desk.specs.Reading.{HoldsFormed}
 use Rattle.sql_register.specs.Content.{content_in}
 use Rattle.sql_tables.specs.Ends.{IsSame}
 use Rattle.desk_opening.specs.Opened.{Finds, KeepAudited, StandsOpen}

@@ -1,6 +1,0 @@
-mod FormLemmas
-mod SaidLemmas
-mod TextLemmas
-mod RowLemmas
-mod EntryLemmas
-pub mod WalkLemmas

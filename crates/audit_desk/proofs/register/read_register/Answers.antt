@@ -1,0 +1,102 @@
+use Rattle.std.proofs.Common.{◌≡◌, ◌+◌, ◌∙◌, ap, subst, sym, arith}
+use Rattle.std.specs.List.{AllByRecursion}
+use Rattle.sqlite.specs.Effect.{Database}
+use Rattle.sqlite.specs.Held.{state}
+use Rattle.sqlite.specs.State.{HasCleanDisk}
+use Rattle.sql_tables.specs.Ends.{IsSame}
+use Rattle.sql_tables.specs.Schema.{desk_schema, register_table}
+use Rattle.sql_tables.specs.Forms.{HasForm}
+use Rattle.sql_tables.proofs.LookLemmas.{look_more}
+use Rattle.sql_tables.specs.declared.compared.TheConstants.{MOST}
+use Rattle.sql_tables.specs.ByNumber.{HasNoOther}
+use Rattle.audit_desk.specs.declared.register.Reading.TheVariants.{Whole}
+use Rattle.audit_desk.specs.Reading.{HoldsFormed, HoldsRows, TakesRow}
+use Rattle.audit_desk.proofs.ReadingLemmas.{again, formed_again, is_read, more_held}
+use Rattle.audit_desk.proofs.TakingLemmas.{done_then}
+use Rattle.audit_desk.proofs.register.read_register.Goals as goal
+
+pub loop-before-preserved : goal.loop-before-preserved
+loop-before-preserved g c =
+    let s0 = state g.S.Store c.args.conn.now in
+    let s1 = state g.S.Store c.loop-before.conn in
+    let s2 = state g.S.Store c.read_entry.new.conn in
+    let v0 = g.R.Register.view c.args.register.now in
+    let v1 = g.R.Register.view c.loop-before.register in
+    let v2 = g.R.Register.view c.read_entry.new.register in
+    let i = c.loop-before.invariant in
+    let e = c.in_ok-read_entry.ensures in
+    record {
+      look = look_more tt s0 s1 s2 i.look e.look;
+      done = done_then v0 v1 v2 i.done e.later e.done;
+      later = record {
+        honest = λ honest. i.later.honest (e.later.honest honest);
+        sure = λ honest sure. i.later.sure (e.later.honest honest) (e.later.sure honest sure);
+        room = e.later.room ∙ i.later.room;
+        device_honest = λ honest. i.later.device_honest (e.later.device_honest honest);
+        failures = (let a = i.later.failures in let b = e.later.failures in omega arith);
+      };
+      holds = λ honest sure. formed_again v1.room v0.room v2.content i.later.room (e.holds honest (i.done.sure (e.later.honest honest) sure) c.in-Taken.is);
+      rows = λ clean is_open has honest sure formed.
+          let clean1 : HasCleanDisk s1 = (let less = e.look.later.clean in omega arith) in
+          let same : IsSame s0 s1 = i.look.ok clean1 is_open has in
+          let has1 : s1.now.schema ≡ desk_schema = ap (λ (d : Database). d.schema) same.now ∙ has in
+          let honest1 = e.later.honest honest in
+          let formed1 = subst (λ (d : Database). AllByRecursion (HasForm register_table) (d.trees 6)) (sym same.now) formed in
+          let so_far = i.rows clean1 is_open has honest1 sure formed in
+          let takes = e.takes clean same.is_open has1 honest (i.done.sure honest1 sure) formed1 (again v0.room v1.room v1.content (sym i.later.room) so_far.held) c.in-Taken.is in
+          more_held (s0.now.trees 6) c.loop-before.before v0.room v1.room v1.content v2.content so_far
+          (subst (λ (d : Database). TakesRow (d.trees 6) (c.loop-before.before + 1) v1.room v1.content v2.content) same.now takes) i.later.room;
+    }
+
+pub returns-in-Nothing-clause-entries : goal.returns-in-Nothing-clause-entries
+returns-in-Nothing-clause-entries g c = λ clean is_open has honest sure order formed whole.
+    let s0 = state g.S.Store c.args.conn.now in
+    let s1 = state g.S.Store c.loop-before.conn in
+    let s2 = state g.S.Store c.read_entry.new.conn in
+    let v0 = g.R.Register.view c.args.register.now in
+    let v1 = g.R.Register.view c.loop-before.register in
+    let v2 = g.R.Register.view c.read_entry.new.register in
+    let count = c.loop-before.before in
+    let i = c.loop-before.invariant in
+    let e = c.in_ok-read_entry.ensures in
+    let n = c.in_ok-end-in-Nothing.ensures in
+    let end = c.in_ok-end-in-Nothing.end in
+    let clean2 : HasCleanDisk s2 = (let less = n.look.later.clean in omega (arith, less, clean)) in
+    let clean1 : HasCleanDisk s1 = (let less = e.look.later.clean in omega (arith, less, clean2)) in
+    let one : IsSame s0 s1 = i.look.ok clean1 is_open has in
+    let has1 : s1.now.schema ≡ desk_schema = ap (λ (d : Database). d.schema) one.now ∙ has in
+    let two : IsSame s1 s2 = e.look.ok clean2 one.is_open has1 in
+    let has2 : s2.now.schema ≡ desk_schema = ap (λ (d : Database). d.schema) two.now ∙ has1 in
+    let honest1 = e.later.honest honest in
+    let same : v2.content ≡ v1.content = e.same honest (i.done.sure honest1 sure) c.in-Nothing.is in
+    let none = subst (λ (d : Database). end ≡ Whole → HasNoOther (d.trees 6) count) (two.now ∙ one.now) (n.none clean two.is_open has2) in
+    let rows = subst (HoldsRows (s0.now.trees 6) count v0.room) (sym same) (i.rows clean1 is_open has honest1 sure formed.1.1.1.0.each) in
+    is_read s0.now count v0.room v2.content end none order formed rows (omega arith) whole
+
+pub returns-clause-entries : goal.returns-clause-entries
+returns-clause-entries g c = λ clean is_open has honest sure order formed whole.
+    let s0 = state g.S.Store c.args.conn.now in
+    let s1 = state g.S.Store c.loop-before.conn in
+    let v0 = g.R.Register.view c.args.register.now in
+    let v1 = g.R.Register.view c.loop-before.register in
+    let count = c.loop-before.before in
+    let i = c.loop-before.invariant in
+    let n = c.in_ok-end.ensures in
+    let end = c.in_ok-end.end in
+    let clean1 : HasCleanDisk s1 = (let less = n.look.later.clean in omega (arith, less, clean)) in
+    let one : IsSame s0 s1 = i.look.ok clean1 is_open has in
+    let has1 : s1.now.schema ≡ desk_schema = ap (λ (d : Database). d.schema) one.now ∙ has in
+    let all : MOST ≡ count = omega arith in
+    let none = subst (λ (d : Database). end ≡ Whole → HasNoOther (d.trees 6) count) one.now (subst (λ m. end ≡ Whole → HasNoOther (s1.now.trees 6) m) all (n.none clean one.is_open has1)) in
+    is_read s0.now count v0.room v1.content end none order formed (i.rows clean1 is_open has honest sure formed.1.1.1.0.each) (omega arith) whole
+
+pub returns-in-Nothing-clause-holds : goal.returns-in-Nothing-clause-holds
+returns-in-Nothing-clause-holds g c = λ honest sure whole.
+    let v0 = g.R.Register.view c.args.register.now in
+    let v1 = g.R.Register.view c.loop-before.register in
+    let v2 = g.R.Register.view c.read_entry.new.register in
+    let i = c.loop-before.invariant in
+    let e = c.in_ok-read_entry.ensures in
+    let honest1 = e.later.honest honest in
+    let same : v2.content ≡ v1.content = e.same honest (i.done.sure honest1 sure) c.in-Nothing.is in
+    subst (HoldsFormed v0.room) (sym same) (i.holds honest1 sure)

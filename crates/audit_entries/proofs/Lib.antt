@@ -1,4 +1,0 @@
-pub mod ReadingLemmas
-pub mod RowLemmas
-pub mod TakingLemmas
-pub mod VersionLemmas

@@ -1,7 +1,0 @@
-use Rattle.sqlite.specs.Held.{state}
-use Rattle.audit_entries.proofs.RowLemmas.{found}
-use Rattle.audit_entries.proofs.rows.found_at.Goals as goal
-
-pub returns-clause-found : goal.returns-clause-found
-returns-clause-found g c clean is_open has formed =
-    found ((state g.S.Store c.args.conn.now).now.trees 6) c.in_ok-rows.rows.items c.deref.result.now c.args.number c.found_in.result formed (c.in_ok-rows.ensures.shown clean is_open has) c.deref.ensures.value c.found_in.ensures.shown

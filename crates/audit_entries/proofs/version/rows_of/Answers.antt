@@ -1,9 +1,0 @@
-use Rattle.sqlite.specs.Held.{state}
-use Rattle.audit_entries.proofs.VersionLemmas.{all_shown, reads_all}
-use Rattle.audit_entries.proofs.version.rows_of.Goals as goal
-
-pub query-requires : goal.query-requires
-query-requires g c = record { query = reads_all }
-
-pub returns-clause-shown : goal.returns-clause-shown
-returns-clause-shown g c clean is_open has = all_shown (state g.S.Store c.args.conn.now) (state g.S.Store c.query.new.conn) has c.query.result (c.query.ensures.shown clean)

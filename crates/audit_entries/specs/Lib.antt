@@ -1,4 +1,0 @@
-pub mod Found
-pub mod Reading
-pub mod Rows
-pub mod Taking

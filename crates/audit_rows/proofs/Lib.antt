@@ -1,3 +1,0 @@
-pub mod ByNumberLemmas
-pub mod NumberedLemmas
-pub mod RowLemmas

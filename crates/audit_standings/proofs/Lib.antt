@@ -1,4 +1,0 @@
-mod OrderedRows
-mod SaidRows
-mod StandingRows
-mod StandingTable

@@ -1,0 +1,65 @@
+use Rattle.std.proofs.Common.{IfOk, IsTrue, sym, ◌∙◌}
+use Rattle.sqlite.specs.Held.{state}
+use Rattle.sql_amounts.specs.Amounts.{AreAmounts}
+use Rattle.sql_tables.specs.Ends.{HasLooked}
+use Rattle.sql_tables.specs.Schema.{desk_schema}
+use Rattle.sql_tables.proofs.LookLemmas.{look_more}
+use Rattle.desk_register.specs.View.{HasRead}
+use Rattle.desk_register.proofs.ReadLemmas.{read_more}
+use Rattle.sql_tables.specs.Forms.{AreAllFormed}
+use Rattle.sql_tables.specs.Order.{AreInOrder}
+use Rattle.sql_amounts.specs.Recorded.{AreAllRecorded, IsPaidRecorded, SaysAll}
+use Rattle.sql_amounts.specs.Shown.{AreTrueTables}
+use Rattle.sql_amounts.proofs.EntryLemmas.{amounts_of, says_all, tables_of}
+use Rattle.sql_amounts.proofs.WalkLemmas.{found_so, has_told, in_three}
+use Rattle.sql_amounts.proofs.compared.has_amounts.Goals as goal
+
+pub returns-clause-says : goal.returns-clause-says
+returns-clause-says g c = λ clean is_open has honest sure order formed strange.
+    let s0 = state g.S.Store c.args.conn.now in
+    let v0 = g.R.Register.view c.args.register.now in
+    let one = c.in_ok-are_true_tables.ensures in
+    let two = c.in_ok-are_entries_recorded.ensures in
+    let three = c.is_paid_recorded.ensures in
+    let r = c.is_paid_recorded.result in
+    let all = in_three s0 (state g.S.Store c.are_true_tables.new.conn) (state g.S.Store c.are_entries_recorded.new.conn) (state g.S.Store c.is_paid_recorded.new.conn)
+    v0 (g.R.Register.view c.are_true_tables.new.register) (g.R.Register.view c.are_entries_recorded.new.register) (g.R.Register.view c.is_paid_recorded.new.register)
+    one.look one.read two.look two.read three.look.later three.read.later
+    (λ db content. AreInOrder desk_schema db.trees → AreAllFormed db.trees → AreTrueTables db content) (λ db content. AreAmounts db → AreAllRecorded db content)
+    (λ db content. AreAmounts db → IfOk r (λ so. IsTrue so → IsPaidRecorded db content))
+    (λ clean is_open has honest sure order formed. one.says clean is_open has honest sure order formed c.if-not-branch.false)
+    (λ clean is_open has honest sure amounts. two.says clean is_open has honest sure amounts c.if-not-branch-2.false)
+    three.says clean is_open has honest sure in
+    let tables = all.0.0 order formed in
+    let amounts = amounts_of s0.now v0.content tables in
+    has_told s0.now v0.content r strange (tables, all.0.1 amounts) (all.1 amounts)
+
+pub returns-then-not-branch-clause-exact : goal.returns-then-not-branch-clause-exact
+returns-then-not-branch-clause-exact g c = λ clean is_open has honest sure can it.
+    sym c.if-not-branch.true ∙ c.in_ok-are_true_tables.ensures.exact clean is_open has honest sure (tables_of (state g.S.Store c.args.conn.now).now (g.R.Register.view c.args.register.now).content it) can
+
+pub returns-then-not-branch-2-clause-exact : goal.returns-then-not-branch-2-clause-exact
+returns-then-not-branch-2-clause-exact g c = λ clean is_open has honest sure can it.
+    let s0 = state g.S.Store c.args.conn.now in
+    let v0 = g.R.Register.view c.args.register.now in
+    let one = c.in_ok-are_true_tables.ensures in
+    let two = c.in_ok-are_entries_recorded.ensures in
+    sym c.if-not-branch-2.true ∙ found_so s0 (state g.S.Store c.are_true_tables.new.conn) (state g.S.Store c.are_entries_recorded.new.conn)
+    v0 (g.R.Register.view c.are_true_tables.new.register) (g.R.Register.view c.are_entries_recorded.new.register) one.look one.read two.look.later two.read.later SaysAll two.exact clean is_open has honest sure
+    (says_all s0.now v0.content can it)
+
+pub returns-clause-exact : goal.returns-clause-exact
+returns-clause-exact g c = λ clean is_open has honest sure can it.
+    let s0 = state g.S.Store c.args.conn.now in
+    let s1 = state g.S.Store c.are_true_tables.new.conn in
+    let s2 = state g.S.Store c.are_entries_recorded.new.conn in
+    let v0 = g.R.Register.view c.args.register.now in
+    let v1 = g.R.Register.view c.are_true_tables.new.register in
+    let v2 = g.R.Register.view c.are_entries_recorded.new.register in
+    let one = c.in_ok-are_true_tables.ensures in
+    let two = c.in_ok-are_entries_recorded.ensures in
+    let three = c.is_paid_recorded.ensures in
+    let looked : HasLooked s0 s2 = look_more tt s0 s1 s2 one.look two.look in
+    let read : HasRead v0 v2 = read_more tt v0 v1 v2 one.read two.read in
+    found_so s0 s2 (state g.S.Store c.is_paid_recorded.new.conn) v0 v2 (g.R.Register.view c.is_paid_recorded.new.register) looked read three.look.later three.read.later SaysAll three.exact clean is_open has honest sure
+    (says_all s0.now v0.content can it)

@@ -1,0 +1,113 @@
+-- What the texts show of the rows of `register`.
+use Rattle.std.proofs.Common.{◌≡◌, ◌<◌, ℕ, List, [], ◌∷◌, length, map, filter, get_or, nat_lt, true, codes, refl, sym, ap, subst, ◌∙◌, arith, Ok, Err, Result, IfOk}
+use Rattle.std.specs.List.{list_all, AllByRecursion}
+use Rattle.std.specs.List.Sorted.{IsPermutation}
+use Rattle.std.proofs.lemmas.Bool.{and_parts, ltb-true}
+use Rattle.std.proofs.lemmas.List.{get_or-map, length-map}
+use Rattle.std.proofs.lemmas.List.Sorted.{IsPermutation-refl, IsPermutation-sym}
+use Rattle.sqlite.specs.declared.error.Error.{Error}
+use Rattle.sqlite.specs.declared.types.Value.{Value}
+use Rattle.sqlite.specs.declared.types.Value.TheVariants.{Null}
+use Rattle.sqlite.specs.Order.{Row}
+use Rattle.sqlite.specs.Term.{Term, col}
+use Rattle.sqlite.specs.Values.{bound, bound_value}
+use Rattle.sqlite_value.specs.declared.value.ValueRef.{ValueRef}
+use Rattle.sqlite_value.specs.declared.value.ValueRef.TheVariants.{Null as unset}
+use Rattle.sqlite_value.specs.Value.{owned}
+use Rattle.sqlite.specs.Listing.{understood}
+use Rattle.sqlite.proofs.Callers.{one_permutation}
+use Rattle.sqlite_tied.specs.Compute.{everything}
+use Rattle.desk_rules.specs.declared.answers.reply.Kept.{Kept}
+use Rattle.sql_tables.specs.Schema.{register_table}
+use Rattle.sql_tables.specs.Queries.{equals}
+use Rattle.sql_tables.proofs.ShownLemmas.{IsPlainQuery}
+use Rattle.sql_tables.specs.Forms.{HasForm}
+use Rattle.sql_entries.specs.Entries.{given, values_of}
+use Rattle.sql_tables.specs.ByNumber.{above, below, has_number, HasOne}
+use Rattle.sql_tables.specs.Whole.{shown_by}
+use Rattle.sql_tables.proofs.ByNumberLemmas.{is_its_row}
+use Rattle.sql_tables.proofs.RowLemmas.{IsNumbered}
+use Rattle.sql_entries.specs.declared.compared.Found.{Found}
+use Rattle.sql_entries.specs.declared.compared.Found.TheVariants.{Nothing, Another, Entry}
+use Rattle.sql_entries.specs.Found.{IsFound, IsShownAs}
+use Rattle.sql_entries.specs.Rows.{shown, shown_kept}
+
+-- ---- the texts
+
+abbrev pub at_text : List ℕ
+at_text = codes "SELECT sender, reference, kind, bic, account, isin, unit, quantity, currency, amount, day, rule, mt, settlement, place, previous, status, reply_mt, reply, number, about FROM register WHERE number = ?1"
+
+abbrev pub above_text : List ℕ
+above_text = codes "SELECT number FROM register WHERE number > ?1"
+
+abbrev pub below_text : List ℕ
+below_text = codes "SELECT number FROM register WHERE number < ?1"
+
+abbrev columns : List Term
+columns =
+    col 1 2 ∷ col 1 3 ∷ col 1 4 ∷ col 1 6 ∷ col 1 7 ∷ col 1 8 ∷ col 1 9 ∷ col 1 10 ∷ col 1 11 ∷ col 1 12 ∷ col 1 13 ∷ col 1 14 ∷ col 1 15 ∷ col 1 16 ∷ col 1 17 ∷ col 1 18 ∷ col 1 19 ∷ col 1 20 ∷ col 1 21 ∷ col 1 0 ∷ col 1 5 ∷ []
+
+abbrev names : List (List ℕ)
+names =
+    codes "sender" ∷ codes "reference" ∷ codes "kind" ∷ codes "bic" ∷ codes "account" ∷ codes "isin" ∷ codes "unit" ∷ codes "quantity" ∷ codes "currency" ∷ codes "amount" ∷ codes "day" ∷ codes "rule" ∷ codes "mt"
+    ∷ codes "settlement" ∷ codes "place" ∷ codes "previous" ∷ codes "status" ∷ codes "reply_mt" ∷ codes "reply" ∷ codes "number" ∷ codes "about" ∷ []
+
+pub reads_at : IsPlainQuery at_text 6 (equals 0 0 ∷ []) columns
+unfolding understood everything
+reads_at = record { names = names; is = refl; query = record { selects = refl; plain = (refl, refl); unlisted = refl } }
+
+pub reads_above : IsPlainQuery above_text 6 (above ∷ []) (col 1 0 ∷ [])
+unfolding understood everything
+reads_above = record { names = codes "number" ∷ []; is = refl; query = record { selects = refl; plain = (refl, refl); unlisted = refl } }
+
+pub reads_below : IsPlainQuery below_text 6 (below ∷ []) (col 1 0 ∷ [])
+unfolding understood everything
+reads_below = record { names = codes "number" ∷ []; is = refl; query = record { selects = refl; plain = (refl, refl); unlisted = refl } }
+
+-- ---- the row of a number
+
+numbered : IsNumbered register_table 20
+numbered = record { key = refl; last = refl; size = refl }
+
+-- the columns in their own order
+in_order : (s r k b a i u q c m d l t e p v x y z n g s' r' k' b' a' i' u' q' c' m' d' l' t' e' p' v' x' y' z' n' g' : Value)
+    → (s ∷ r ∷ k ∷ b ∷ a ∷ i ∷ u ∷ q ∷ c ∷ m ∷ d ∷ l ∷ t ∷ e ∷ p ∷ v ∷ x ∷ y ∷ z ∷ n ∷ g ∷ []) ≡ (s' ∷ r' ∷ k' ∷ b' ∷ a' ∷ i' ∷ u' ∷ q' ∷ c' ∷ m' ∷ d' ∷ l' ∷ t' ∷ e' ∷ p' ∷ v' ∷ x' ∷ y' ∷ z' ∷ n' ∷ g' ∷ [])
+    → (n ∷ s ∷ r ∷ k ∷ g ∷ b ∷ a ∷ i ∷ u ∷ q ∷ c ∷ m ∷ d ∷ l ∷ t ∷ e ∷ p ∷ v ∷ x ∷ y ∷ z ∷ []) ≡ (n' ∷ s' ∷ r' ∷ k' ∷ g' ∷ b' ∷ a' ∷ i' ∷ u' ∷ q' ∷ c' ∷ m' ∷ d' ∷ l' ∷ t' ∷ e' ∷ p' ∷ v' ∷ x' ∷ y' ∷ z' ∷ [])
+in_order s r k b a i u q c m d l t e p v x y z n g s' r' k' b' a' i' u' q' c' m' d' l' t' e' p' v' x' y' z' n' g' same = cc
+
+shown_whole : (row : Row) (number : ℕ) (kept : Kept) → shown row ≡ shown_kept number kept → shown_by 20 row ≡ given number kept.entry kept.reply
+shown_whole row number kept same = in_order _ _ _ _ _ _ _ _ _ _ _ _ _ _ _ _ _ _ _ _ _ _ _ _ _ _ _ _ _ _ _ _ _ _ _ _ _ _ _ _ _ _ same
+
+all_whole : (mine : List Row) (number : ℕ) (kept : Kept) → map shown mine ≡ shown_kept number kept ∷ [] → map (shown_by 20) mine ≡ given number kept.entry kept.reply ∷ []
+all_whole [] number kept only = absurd (cc)
+all_whole (r ∷ []) number kept only = (let first : shown r ≡ shown_kept number kept = cc in ap (λ x. x ∷ []) (shown_whole r number kept first))
+all_whole (r ∷ (s ∷ more)) number kept only = absurd (cc)
+
+one_row : (rows items : List Row) (number : ℕ) (kept : Kept) → AllByRecursion (HasForm register_table) rows → IsPermutation (map shown (filter (has_number number) rows)) items → items ≡ shown_kept number kept ∷ []
+    → HasOne rows number (values_of kept.entry kept.reply)
+one_row rows items number kept formed same is =
+    let mine = filter (has_number number) rows in
+    let back = IsPermutation-sym (map shown mine) items same in
+    let only : map shown mine ≡ shown_kept number kept ∷ [] = one_permutation (shown_kept number kept) (map shown mine) (subst (λ (xs : List Row). IsPermutation xs (map shown mine)) is back) in
+    is_its_row register_table 20 numbered rows (map (shown_by 20) mine) number (values_of kept.entry kept.reply) refl formed (IsPermutation-refl (map (shown_by 20) mine)) (all_whole mine number kept only)
+
+pub found : (rows items shown_rows : List Row) (number : ℕ) (r : Result Found Error) → AllByRecursion (HasForm register_table) rows → IsPermutation (map shown (filter (has_number number) rows)) items → shown_rows ≡ items
+    → IfOk r (λ it. IsShownAs shown_rows number it) → IfOk r (λ it. IsFound rows number it)
+found rows items shown_rows number (Ok Nothing) formed same is h = tt
+found rows items shown_rows number (Ok Another) formed same is h = tt
+found rows items shown_rows number (Ok (Entry kept)) formed same is h = record { row = one_row rows items number kept formed same (sym is ∙ h.is); formed = h.formed }
+found rows items shown_rows number (Err e) formed same is h = tt
+
+-- ---- values in another order
+
+bound_at : (xs : List ValueRef) (ys : Row) (k : ℕ) → bound xs ≡ ys → k < length ys → bound_value (owned (get_or xs k unset)) ≡ get_or ys k Null
+bound_at xs ys k same low =
+    let size : length xs ≡ length ys = sym (length-map xs (λ v. bound_value (owned v))) ∙ ap length same in
+    sym (get_or-map (λ v. bound_value (owned v)) xs k unset Null (omega (arith, low, size))) ∙ ap (λ (vs : Row). get_or vs k Null) same
+
+pub reordered : (xs : List ValueRef) (ys : Row) (places : List ℕ) → bound xs ≡ ys → list_all (λ k. nat_lt k (length ys)) places ≡ true
+    → map (λ k. bound_value (owned (get_or xs k unset))) places ≡ map (λ k. get_or ys k Null) places
+reordered xs ys [] same within = refl
+reordered xs ys (k ∷ ks) same within =
+    let parts = and_parts (nat_lt k (length ys)) (list_all (λ k. nat_lt k (length ys)) ks) within in
+    ap (λ v. v ∷ map (λ k. bound_value (owned (get_or xs k unset))) ks) (bound_at xs ys k same (ltb-true k (length ys) parts.0)) ∙ ap (λ (vs : Row). get_or ys k Null ∷ vs) (reordered xs ys ks same parts.1)

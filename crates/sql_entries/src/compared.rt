@@ -1,0 +1,195 @@
+//! The rows of `register` by their numbers.
+ghost use Rattle.std.specs.Prelude.{◌≡◌, ◌<◌, ◌^◌, ◌∷◌, [], map, filter, IsTrue, IfOk};
+ghost use Rattle.std.specs.List.{AllByRecursion};
+ghost use Rattle.std.specs.List.Sorted.{IsPermutation};
+ghost use Rattle.sqlite.specs.Values.{bound};
+ghost use Rattle.sql_tables.specs.Calls.{Looks, Soundly, tables};
+ghost use Rattle.sql_tables.specs.Schema.{register_table};
+ghost use Rattle.sql_tables.specs.Forms.{HasForm};
+ghost use Rattle.sql_tables.specs.ByNumber.{has_number, is_above, is_below, HasNoOther};
+ghost use Rattle.sql_entries.specs.Found.{IsFormed, IsFound, IsShownAs};
+ghost use Rattle.sql_entries.specs.Rows.{shown, shown_kept};
+
+use crate::entry::entry_in;
+use crate::looking::reply_in;
+use crate::values::row_values;
+use desk_rules::{Entry, Kept, Reply, well_formed};
+use sql_tables::compared::same_row;
+use sql_tables::statement::query;
+use sql_tables::values::integer;
+use sqlite::types::ValueRef;
+use sqlite::{Alter, Connection, Error, ErrorCode, Row};
+use std::alloc::Global;
+
+/// Where the columns of a reply begin in a row that is shown.
+const REPLY: usize = 16;
+
+/// The rows of a number: the columns that say an entry, those of its reply, and the two that are not read but compared.
+fn rows_at<S: Alter>(conn: &mut Connection<S>, number: u64) -> Result<Vec<Row>, Error>
+    requires { number < 2 ^ 63 }
+    ensures shown { Soundly S.Store conn.old conn.new (IfOk result (λ rows. IsPermutation (map shown (filter (has_number number) ((tables S.Store conn.old).trees 6))) rows.items)) }
+    ensures look { Looks S.Store conn.old conn.new result }
+{
+    query(
+        conn,
+        "SELECT sender, reference, kind, bic, account, isin, unit, quantity, currency, amount, day, rule, mt, settlement, place, previous, status, reply_mt, reply, number, about FROM register WHERE number = ?1",
+        &[integer(number)],
+    )
+}
+
+/// The numbers above one.
+fn rows_above<S: Alter>(conn: &mut Connection<S>, number: u64) -> Result<Vec<Row>, Error>
+    requires { number < 2 ^ 63 }
+    ensures shown { Soundly S.Store conn.old conn.new (IfOk result (λ rows. rows.items ≡ [] → filter (is_above number) ((tables S.Store conn.old).trees 6) ≡ [])) }
+    ensures look { Looks S.Store conn.old conn.new result }
+{
+    query(
+        conn,
+        "SELECT number FROM register WHERE number > ?1",
+        &[integer(number)],
+    )
+}
+
+/// The numbers below one.
+fn rows_below<S: Alter>(conn: &mut Connection<S>, number: u64) -> Result<Vec<Row>, Error>
+    requires { number < 2 ^ 63 }
+    ensures shown { Soundly S.Store conn.old conn.new (IfOk result (λ rows. rows.items ≡ [] → filter (is_below number) ((tables S.Store conn.old).trees 6) ≡ [])) }
+    ensures look { Looks S.Store conn.old conn.new result }
+{
+    query(
+        conn,
+        "SELECT number FROM register WHERE number < ?1",
+        &[integer(number)],
+    )
+}
+
+/// What is shown of the row of an entry with its reply.
+fn values(number: u64, kept: &Kept) -> [ValueRef<'_>; 21]
+    requires { number < 2 ^ 63 }
+    ensures { bound result ≡ shown_kept number kept.now }
+{
+    let [
+        number,
+        sender,
+        reference,
+        kind,
+        about,
+        bic,
+        account,
+        isin,
+        unit,
+        quantity,
+        currency,
+        amount,
+        day,
+        rule,
+        mt,
+        settlement,
+        place,
+        previous,
+        status,
+        reply_mt,
+        reply,
+    ] = row_values(number, &kept.entry, &kept.reply);
+    [
+        sender, reference, kind, bic, account, isin, unit, quantity, currency, amount, day, rule,
+        mt, settlement, place, previous, status, reply_mt, reply, number, about,
+    ]
+}
+
+/// Whether shown rows are the one of an entry with its reply.
+fn is_row_of(rows: &[Row], number: u64, kept: &Kept) -> bool
+    requires { number < 2 ^ 63 }
+    ensures { IsTrue result → rows.now ≡ shown_kept number kept.now ∷ [] }
+{
+    match rows {
+        [row] => same_row(row, &values(number, kept)),
+        _ => false,
+    }
+}
+
+/// The entry that a shown row says; None where it says none of the desk's.
+fn entry_said(alloc: Global, row: &Row) -> Result<Option<Entry>, Error> {
+    match entry_in(alloc, row) {
+        Ok(entry) => Ok(Some(entry)),
+        Err(Error::SqliteFailure(ErrorCode::DatabaseCorrupt)) => Ok(None),
+        Err(error) => Err(error),
+    }
+}
+
+/// The reply that it says; None where it says none.
+fn reply_said(alloc: Global, row: &Row) -> Result<Option<Reply>, Error> {
+    match reply_in(alloc, row, REPLY) {
+        Ok(reply) => Ok(Some(reply)),
+        Err(Error::SqliteFailure(ErrorCode::DatabaseCorrupt)) => Ok(None),
+        Err(error) => Err(error),
+    }
+}
+
+/// The entry with its reply that a shown row says. Nothing has to be known of them: the whole row is compared with what they
+/// would write.
+fn kept_said(alloc: Global, row: &Row) -> Result<Option<Kept>, Error> {
+    let Some(entry) = entry_said(alloc, row)? else {
+        return Ok(None);
+    };
+    let Some(reply) = reply_said(alloc, row)? else {
+        return Ok(None);
+    };
+    Ok(Some(Kept { entry, reply }))
+}
+
+/// What stands in the table under a number.
+pub enum Found {
+    /// No row
+    Nothing,
+    /// A row that no entry writes
+    Another,
+    /// The row of an entry with its reply
+    Entry(Kept),
+}
+
+/// What shown rows of a number are.
+fn found_in(alloc: Global, rows: &[Row], number: u64) -> Result<Found, Error>
+    requires { number < 2 ^ 63 }
+    ensures shown { IfOk result (λ found. IsShownAs rows.now number found) }
+    ensures formed { IfOk result IsFormed }
+{
+    let Some(row) = rows.first() else {
+        return Ok(Found::Nothing);
+    };
+    let Some(kept) = kept_said(alloc, row)? else {
+        return Ok(Found::Another);
+    };
+    if !is_row_of(rows, number, &kept) {
+        return Ok(Found::Another);
+    }
+    well_formed(&kept.entry);
+    Ok(Found::Entry(kept))
+}
+
+/// What stands under a number.
+pub fn found_at<S: Alter>(
+    alloc: Global,
+    conn: &mut Connection<S>,
+    number: u64,
+) -> Result<Found, Error>
+    requires { number < 2 ^ 63 }
+    ensures found { Soundly S.Store conn.old conn.new (AllByRecursion (HasForm register_table) ((tables S.Store conn.old).trees 6) → IfOk result (λ found. IsFound ((tables S.Store conn.old).trees 6) number found)) }
+    ensures formed { IfOk result IsFormed }
+    ensures look { Looks S.Store conn.old conn.new result }
+{
+    let rows = rows_at(conn, number)?;
+    found_in(alloc, &rows, number)
+}
+
+/// Whether there is no row below 1, nor above the last.
+pub fn has_no_other<S: Alter>(conn: &mut Connection<S>, count: u64) -> Result<bool, Error>
+    requires { count < 2 ^ 63 }
+    ensures none { Soundly S.Store conn.old conn.new (IfOk result (λ ok. IsTrue ok → HasNoOther ((tables S.Store conn.old).trees 6) count)) }
+    ensures look { Looks S.Store conn.old conn.new result }
+{
+    if !rows_above(conn, count)?.is_empty() {
+        return Ok(false);
+    }
+    Ok(rows_below(conn, 1)?.is_empty())
+}

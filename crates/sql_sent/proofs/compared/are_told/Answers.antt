@@ -1,0 +1,40 @@
+use Rattle.std.proofs.Common.{◌≡◌, ◌+◌, ◌∙◌, ap, sym, subst, arith}
+use Rattle.std.specs.List.{AllByRecursion}
+use Rattle.sqlite.specs.Effect.{Database}
+use Rattle.sqlite.specs.Held.{state}
+use Rattle.sqlite.specs.State.{HasCleanDisk}
+use Rattle.desk_rules.specs.Content.{Content}
+use Rattle.sql_tables.specs.Ends.{IsSame}
+use Rattle.sql_tables.specs.Schema.{desk_schema, sent_table}
+use Rattle.sql_tables.specs.Forms.{HasForm}
+use Rattle.sql_tables.proofs.LookLemmas.{look_more}
+use Rattle.desk_register.proofs.ReadLemmas.{read_more}
+use Rattle.sql_sent.specs.Told.{IsTold}
+use Rattle.sql_sent.proofs.ComparedTable.{told_next}
+use Rattle.sql_sent.proofs.compared.are_told.Goals as goal
+
+pub loop-before-preserved : goal.loop-before-preserved
+loop-before-preserved g c =
+    let s0 = state g.S.Store c.args.conn.now in
+    let s1 = state g.S.Store c.loop-before.conn in
+    let s2 = state g.S.Store c.is_told.new.conn in
+    let v0 = g.R.Register.view c.args.register.now in
+    let v1 = g.R.Register.view c.loop-before.register in
+    let v2 = g.R.Register.view c.is_told.new.register in
+    let i = c.loop-before.invariant in
+    let e = c.in_ok-is_told.ensures in
+    let n = c.loop-before.before in
+    record {
+      look = look_more tt s0 s1 s2 i.look e.look;
+      read = read_more tt v0 v1 v2 i.read e.read;
+      told = λ clean is_open has honest sure formed.
+          let clean1 : HasCleanDisk s1 = (let less = e.look.later.clean in omega arith) in
+          let same : IsSame s0 s1 = i.look.ok clean1 is_open has in
+          let has1 : s1.now.schema ≡ desk_schema = ap (λ (d : Database). d.schema) same.now ∙ has in
+          let honest1 = e.read.later.honest honest in
+          let so = i.told clean1 is_open has honest1 sure formed in
+          let formed1 = subst (λ (d : Database). AllByRecursion (HasForm sent_table) (d.trees 9)) (sym same.now) formed in
+          let here = e.told clean same.is_open has1 honest (i.read.ok.sure honest1 sure) formed1 c.if-not-branch.false in
+          let here0 = subst (λ (d : Database). IsTold (d.trees 9) v1.content.sent (n + 1)) same.now here in
+          told_next (s0.now.trees 9) v0.content.sent n so (subst (λ (x : Content). IsTold (s0.now.trees 9) x.sent (n + 1)) (i.read.same honest1 sure) here0);
+    }

@@ -1,0 +1,29 @@
+-- How an audit ends: it only looks at the tables, and only reads the register; whichever of the two failed gave no answer.
+use Rattle.std.specs.Prelude.{⊤, Result, Ok, Err}
+use Rattle.sqlite_trees.specs.declared.store.Store.{Ghosts}
+use Rattle.sqlite.specs.declared.error.Error.{Error}
+use Rattle.sqlite.specs.Held.{Held, state}
+use Rattle.desk_register.specs.declared.register.Fault.{Fault}
+use Rattle.desk_register.specs.View.{View, IsRead}
+use Rattle.sql_tables.specs.Ends.{IsLook}
+use Rattle.sql_tables.specs.declared.fault.AuditFault.{AuditFault}
+use Rattle.sql_tables.specs.declared.fault.AuditFault.TheVariants.{Register, Tables}
+
+-- how the looks at the tables ended
+abbrev pub of_tables : {X : Type 0} → Result X AuditFault → Result ⊤ Error
+of_tables (Err (Tables error)) = Err error
+of_tables _ = Ok tt
+
+-- how the calls of the register ended
+abbrev pub of_register : {X : Type 0} → Result X AuditFault → Result ⊤ Fault
+of_register (Err (Register fault)) = Err fault
+of_register _ = Ok tt
+
+-- an audit's looks at the tables, by the connection before and after
+module _ {S : Type 0} (store : Ghosts S) (old new : Held S) where
+  abbrev pub Audits : {X : Type 0} → Result X AuditFault → Type 0
+  Audits result = IsLook (of_tables result) (state store old) (state store new)
+
+-- its calls of the register
+abbrev pub Consults : {X : Type 0} → Result X AuditFault → View → View → Type 0
+Consults result old new = IsRead (of_register result) old new
