@@ -14,7 +14,7 @@ from .files import changed, written
 from .part import TOP
 from .play import read
 
-MAKING = os.path.join(TOP, "crates/sql_tables/src/making.rt")
+TEXTS = os.path.join(TOP, "cases/tables/texts.sql")
 DAY = os.path.join(TOP, "cases/play/play_day_of_every_request.stdin")
 
 # What the opening of a file comes to: the number of its fault (0: none), and of such why it is one, as standard error tells; of
@@ -88,8 +88,7 @@ def script_of_day():
 
 def texts():
     """The texts that make the tables, in their order."""
-    with open(MAKING, encoding="utf-8") as file:
-        return re.findall(r'"(CREATE [^"]*)"', file.read())
+    return read(TEXTS).decode().removesuffix(";\n").split(";\n")
 
 
 def texts_of_first():

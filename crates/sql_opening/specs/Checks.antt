@@ -7,12 +7,6 @@ use Rattle.sqlite_sql.specs.declared.ops.BinaryOp.TheVariants.{Compare}
 use Rattle.sqlite_sql.specs.declared.ops.CompareOp.TheVariants.{Ge}
 use Rattle.sqlite_schema.specs.declared.code.Op.{Op}
 use Rattle.sqlite_schema.specs.declared.code.Op.TheVariants.{Literal, Column, Binary as Two}
-use Rattle.sql_tables.specs.Schema.{not_below_nought}
-
--- the test of the third column, or none
-abbrev pub checks_of : Bool → List Term
-checks_of true = not_below_nought 3 ∷ []
-checks_of false = []
 
 -- the node at a place; past the end it is no test's
 abbrev pub node_at : List Op → ℕ → Op

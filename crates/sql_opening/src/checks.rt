@@ -3,8 +3,8 @@ ghost use Rattle.std.specs.Prelude.{◌≡◌, ◌↔◌, ◌∷◌, [], pos, Is
 ghost use Rattle.sqlite.specs.declared.types.Value.TheVariants.{Int, Null};
 ghost use Rattle.sqlite_schema.specs.declared.code.Op.TheVariants.{Literal as Constant, Column as Place};
 ghost use Rattle.sqlite_schema.specs.Code.{term_in};
-ghost use Rattle.sql_tables.specs.Schema.{not_below_nought};
-ghost use Rattle.sql_opening.specs.Checks.{checks_of, IsTestAt};
+ghost use Rattle.sql_tables.specs.Schema.{checks_of, not_below_nought};
+ghost use Rattle.sql_opening.specs.Checks.{IsTestAt};
 
 use sqlite_items::Items;
 use sqlite_schema::code::{Op, Terms};

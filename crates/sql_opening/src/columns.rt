@@ -1,26 +1,17 @@
 //! The columns of a table.
-ghost use Rattle.std.specs.Prelude.{◌≡◌, ◌↔◌, ◌∷◌, [], IsTrue, map};
-ghost use Rattle.sql_opening.specs.Outline.{column_of, column_wanted};
+ghost use Rattle.std.specs.Prelude.{◌≡◌, ◌↔◌, IsTrue, map};
+ghost use Rattle.sql_tables.specs.Schema.{column_of};
+ghost use Rattle.sql_opening.specs.Outline.{outline, plain};
 
+use sql_tables::tables::{self, Holds};
 use sqlite_items::Items;
 use sqlite_schema::schema::{Column, Kind};
 use sqlite_value::keys::Collation;
 use sqlite_value::value::Value;
 
-/// A column of the desk's tables, by its name.
-#[derive(Clone, Copy)]
-pub enum WantedColumn<'a> {
-    /// A text, never NULL
-    Text(&'a str),
-    /// An integer, never NULL
-    Number(&'a str),
-    /// An integer, or NULL
-    Optional(&'a str),
-}
-
 /// Whether it is the column of a strict table with no default.
 fn is_plain(column: &Column, name: &str, kind: Kind, not_null: bool) -> bool
-    ensures { IsTrue result ↔ (column.now ≡ column_of name.now kind not_null) }
+    ensures { IsTrue result ↔ (column.now ≡ plain name.now kind not_null) }
 {
     column.name.as_slice() == name.as_bytes()
         && column.kind == kind
@@ -31,19 +22,20 @@ fn is_plain(column: &Column, name: &str, kind: Kind, not_null: bool) -> bool
 }
 
 /// Whether it is this column.
-fn is_column(column: &Column, wanted: &WantedColumn<'_>) -> bool
-    ensures { IsTrue result ↔ (column.now ≡ column_wanted wanted.now) }
+fn is_column(column: &Column, wanted: &tables::Column<'_>) -> bool
+    ensures { IsTrue result ↔ (column.now ≡ column_of (outline wanted.now)) }
 {
-    match wanted {
-        WantedColumn::Text(name) => is_plain(column, name, Kind::Text, true),
-        WantedColumn::Number(name) => is_plain(column, name, Kind::Integer, true),
-        WantedColumn::Optional(name) => is_plain(column, name, Kind::Integer, false),
+    let (name, holds) = *wanted;
+    match holds {
+        Holds::Text => is_plain(column, name, Kind::Text, true),
+        Holds::Number | Holds::Amount => is_plain(column, name, Kind::Integer, true),
+        Holds::Key | Holds::Optional => is_plain(column, name, Kind::Integer, false),
     }
 }
 
 /// Whether these are the columns, in this order.
-pub fn are_columns(columns: &[Column], wanted: &[WantedColumn<'_>]) -> bool
-    ensures { IsTrue result ↔ (columns.now ≡ map column_wanted wanted.now) }
+pub fn are_columns(columns: &[Column], wanted: &[tables::Column<'_>]) -> bool
+    ensures { IsTrue result ↔ (columns.now ≡ map column_of (map outline wanted.now)) }
 {
     match (columns, wanted) {
         ([], []) => true,

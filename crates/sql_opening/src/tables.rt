@@ -1,36 +1,24 @@
 //! A table and an index.
 ghost use Rattle.std.specs.Prelude.{◌≡◌, ◌↔◌, ◌∷◌, [], IsTrue, Some, None, map, false, if◌then◌else◌};
-ghost use Rattle.sql_tables.specs.Schema.{ascending, unstamped};
-ghost use Rattle.sql_opening.specs.Checks.{checks_of};
-ghost use Rattle.sql_opening.specs.Tables.{HasNothingElse, index_wanted, orders_of, table_wanted, uniques_of};
+ghost use Rattle.sql_tables.specs.Schema.{ascending, checks_of, is_numbered as numbered, orders_of, uniques_of, unstamped};
+ghost use Rattle.sql_opening.specs.Outline.{outline};
+ghost use Rattle.sql_opening.specs.Tables.{HasNothingElse, index_outlined, table_outlined};
 
 use crate::checks::are_checks;
-use crate::columns::{WantedColumn, are_columns};
+use crate::columns::are_columns;
+use sql_tables::tables::{self, Holds};
 use sqlite_items::Items;
 use sqlite_schema::schema::{Index, Stamps, Table};
 use sqlite_value::keys::Order;
 
-/// What a table of the desk is told by.
-#[derive(Clone, Copy)]
-pub struct WantedTable<'a> {
-    pub name: &'a str,
-    pub tree: u32,
-    pub columns: &'a [WantedColumn<'a>],
-    /// Whether its rows are numbered; else its key is that of its first two columns, and its third is not below 0
-    pub is_numbered: bool,
-    /// The places of a unique key's two columns
-    pub unique: Option<(usize, usize)>,
-}
-
-/// What the index of a key is told by.
-#[derive(Clone, Copy)]
-pub struct WantedIndex<'a> {
-    pub name: &'a str,
-    pub tree: u32,
-    /// The tree of its table
-    pub table: u32,
-    /// The places of its columns
-    pub columns: &'a [usize],
+/// Whether the first column is the number of the row.
+fn is_numbered(columns: &[tables::Column<'_>]) -> bool
+    ensures { result ≡ numbered (map outline columns.now) }
+{
+    match columns {
+        [(_, Holds::Key), ..] => true,
+        _ => false,
+    }
 }
 
 /// Whether the rows are numbered, or keyed by the first two columns.
@@ -95,22 +83,24 @@ fn has_nothing_else(table: &Table) -> bool
 }
 
 /// Whether it is this table.
-fn is_table(table: &Table, wanted: &WantedTable<'_>) -> bool
-    ensures { IsTrue result ↔ (table.now ≡ table_wanted wanted.now) }
+fn is_table(table: &Table, wanted: &tables::Table<'_>) -> bool
+    ensures { IsTrue result ↔ (table.now ≡ table_outlined wanted.now) }
 {
-    table.name.as_slice() == wanted.name.as_bytes()
-        && table.tree == wanted.tree
-        && are_columns(table.columns.as_slice(), wanted.columns)
-        && is_keyed(table, wanted.is_numbered)
-        && are_uniques(table.uniques.as_slice(), wanted.unique)
-        && are_orders(table.orders.as_slice(), wanted.unique)
-        && are_checks(&table.checks, !wanted.is_numbered)
+    let (name, tree, columns, unique) = *wanted;
+    let is_numbered = is_numbered(columns);
+    table.name.as_slice() == name.as_bytes()
+        && table.tree == tree
+        && are_columns(table.columns.as_slice(), columns)
+        && is_keyed(table, is_numbered)
+        && are_uniques(table.uniques.as_slice(), unique)
+        && are_orders(table.orders.as_slice(), unique)
+        && are_checks(&table.checks, !is_numbered)
         && has_nothing_else(table)
 }
 
 /// Whether these are the tables, in this order.
-pub fn are_tables(tables: &[Table], wanted: &[WantedTable<'_>]) -> bool
-    ensures { IsTrue result ↔ (tables.now ≡ map table_wanted wanted.now) }
+pub fn are_tables(tables: &[Table], wanted: &[tables::Table<'_>]) -> bool
+    ensures { IsTrue result ↔ (tables.now ≡ map table_outlined wanted.now) }
 {
     match (tables, wanted) {
         ([], []) => true,
@@ -122,20 +112,21 @@ pub fn are_tables(tables: &[Table], wanted: &[WantedTable<'_>]) -> bool
 }
 
 /// Whether it is this index.
-fn is_index(index: &Index, wanted: &WantedIndex<'_>) -> bool
-    ensures { IsTrue result ↔ (index.now ≡ index_wanted wanted.now) }
+fn is_index(index: &Index, wanted: &tables::Index<'_>) -> bool
+    ensures { IsTrue result ↔ (index.now ≡ index_outlined wanted.now) }
 {
-    index.name.as_slice() == wanted.name.as_bytes()
-        && index.tree == wanted.tree
-        && index.table == wanted.table
-        && index.columns.as_slice() == wanted.columns
+    let (name, tree, table, first, second) = *wanted;
+    index.name.as_slice() == name.as_bytes()
+        && index.tree == tree
+        && index.table == table
+        && are_two(&index.columns, first, second)
         && index.order.digits == 0
         && index.is_unique
 }
 
 /// Whether these are the indexes, in this order.
-pub fn are_indexes(indexes: &[Index], wanted: &[WantedIndex<'_>]) -> bool
-    ensures { IsTrue result ↔ (indexes.now ≡ map index_wanted wanted.now) }
+pub fn are_indexes(indexes: &[Index], wanted: &[tables::Index<'_>]) -> bool
+    ensures { IsTrue result ↔ (indexes.now ≡ map index_outlined wanted.now) }
 {
     match (indexes, wanted) {
         ([], []) => true,

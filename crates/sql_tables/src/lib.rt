@@ -2,7 +2,7 @@
 //! transaction, what a row that is shown holds, and whether it says what memory says.
 //!
 //! `statement.rt` runs a text that changes rows of a table, or reads some, and `rows.rt` reads what is shown; every call on
-//! the tables is made of these and of `control.rt`. Begin with specs/Schema.antt, the tables, and specs/Ends.antt, how a
+//! the tables is made of these and of `control.rt`. Begin with `tables.rt`, the tables, and specs/Ends.antt, how a
 //! call ends. Proofs on the statements of one table, whichever it is, cite proofs/QueryLemmas.antt, what queries show,
 //! EditLemmas.antt, what edits do, and ValueLemmas.antt, how values compare.
 //!
@@ -20,5 +20,6 @@ pub mod fault;
 pub mod making;
 pub mod rows;
 pub mod statement;
+pub mod tables;
 pub mod values;
 pub mod version;

@@ -9,6 +9,9 @@ ghost use Rattle.sql_tables.specs.Calls.{tables};
 ghost use Rattle.sql_tables.specs.Ends.{IsLater};
 ghost use Rattle.sql_tables.specs.Making.{first_of, Makes, IsEmpty, HasMade, KeepsCommitted};
 
+use crate::tables::{
+    MAKES_BALANCE, MAKES_CASH, MAKES_REGISTER, MAKES_SENT, MAKES_STATE, MAKES_TOTAL, MAKES_VERSION,
+};
 use sqlite::{Alter, Connection, Error};
 
 /// Makes a table.
@@ -26,18 +29,9 @@ fn make_amounts<S: Alter>(conn: &mut Connection<S>) -> Result<(), Error>
     ensures kept { HasCleanDisk (state S.Store conn.new) → IsTrue (state S.Store conn.old).is_open → IsTrue (state S.Store conn.old).in_transaction → IsEmpty no_schema (tables S.Store conn.old) → OnErr result (KeepsCommitted (state S.Store conn.old) (state S.Store conn.new)) }
     ensures later { IsLater (state S.Store conn.old) (state S.Store conn.new) }
 {
-    make(
-        conn,
-        "CREATE TABLE balance (account TEXT NOT NULL, isin TEXT NOT NULL, quantity INTEGER NOT NULL CHECK (quantity >= 0), PRIMARY KEY (account, isin)) STRICT",
-    )?;
-    make(
-        conn,
-        "CREATE TABLE cash (bic TEXT NOT NULL, currency TEXT NOT NULL, amount INTEGER NOT NULL CHECK (amount >= 0), PRIMARY KEY (bic, currency)) STRICT",
-    )?;
-    make(
-        conn,
-        "CREATE TABLE total (subject TEXT NOT NULL, code TEXT NOT NULL, amount INTEGER NOT NULL CHECK (amount >= 0), PRIMARY KEY (subject, code)) STRICT",
-    )?;
+    make(conn, MAKES_BALANCE)?;
+    make(conn, MAKES_CASH)?;
+    make(conn, MAKES_TOTAL)?;
     Ok(())
 }
 
@@ -47,14 +41,8 @@ fn make_register<S: Alter>(conn: &mut Connection<S>) -> Result<(), Error>
     ensures kept { HasCleanDisk (state S.Store conn.new) → IsTrue (state S.Store conn.old).is_open → IsTrue (state S.Store conn.old).in_transaction → IsEmpty (first_of 3 3) (tables S.Store conn.old) → OnErr result (KeepsCommitted (state S.Store conn.old) (state S.Store conn.new)) }
     ensures later { IsLater (state S.Store conn.old) (state S.Store conn.new) }
 {
-    make(
-        conn,
-        "CREATE TABLE register (number INTEGER PRIMARY KEY, sender TEXT NOT NULL, reference TEXT NOT NULL, kind INTEGER NOT NULL, about TEXT NOT NULL, bic TEXT NOT NULL, account TEXT NOT NULL, isin TEXT NOT NULL, unit TEXT NOT NULL, quantity INTEGER NOT NULL, currency TEXT NOT NULL, amount INTEGER NOT NULL, day TEXT NOT NULL, rule INTEGER NOT NULL, mt INTEGER NOT NULL, settlement TEXT NOT NULL, place TEXT NOT NULL, previous TEXT NOT NULL, status INTEGER NOT NULL, reply_mt INTEGER, reply TEXT NOT NULL, UNIQUE (sender, reference)) STRICT",
-    )?;
-    make(
-        conn,
-        "CREATE TABLE state (number INTEGER PRIMARY KEY, mate INTEGER NOT NULL, state INTEGER NOT NULL, reason INTEGER NOT NULL, asked INTEGER NOT NULL) STRICT",
-    )?;
+    make(conn, MAKES_REGISTER)?;
+    make(conn, MAKES_STATE)?;
     Ok(())
 }
 
@@ -64,14 +52,8 @@ fn make_messages<S: Alter>(conn: &mut Connection<S>) -> Result<(), Error>
     ensures kept { HasCleanDisk (state S.Store conn.new) → IsTrue (state S.Store conn.old).is_open → IsTrue (state S.Store conn.old).in_transaction → IsEmpty (first_of 5 4) (tables S.Store conn.old) → OnErr result (KeepsCommitted (state S.Store conn.old) (state S.Store conn.new)) }
     ensures later { IsLater (state S.Store conn.old) (state S.Store conn.new) }
 {
-    make(
-        conn,
-        "CREATE TABLE sent (number INTEGER PRIMARY KEY, bic TEXT NOT NULL, mt INTEGER NOT NULL, about INTEGER NOT NULL, text TEXT NOT NULL) STRICT",
-    )?;
-    make(
-        conn,
-        "CREATE TABLE version (number INTEGER PRIMARY KEY) STRICT",
-    )?;
+    make(conn, MAKES_SENT)?;
+    make(conn, MAKES_VERSION)?;
     Ok(())
 }
 
