@@ -1,10 +1,11 @@
 -- Tables with no row say the empty content.
-use Rattle.std.proofs.Common.{◌≡◌, lit<, inl, refl, sym, ap, subst, ◌∙◌, ℕ, zero, suc, List, [], map, false, codes, unwrap_or, None, Some, Result, Ok, Err, OnOk, arith}
+use Rattle.std.proofs.Common.{◌≡◌, lit<, inl, inr, refl, sym, ap, subst, ◌∙◌, ℕ, zero, suc, List, [], map, false, codes, unwrap_or, None, Some, Result, Ok, Err, OnOk, IfErr, IsTrue, arith}
+use Rattle.std.proofs.lemmas.Bool.{both_ways}
 use Rattle.sqlite.specs.Effect.{Database}
 use Rattle.sqlite.specs.declared.error.Error.{Error}
 use Rattle.sqlite.specs.Command.TheVariants.{Begin}
 use Rattle.sqlite.specs.Listing.{understood}
-use Rattle.sqlite.specs.State.{State, Executes}
+use Rattle.sqlite.specs.State.{State, Executes, IsMisplaced}
 use Rattle.sqlite.proofs.Callers.{IsPlain, command_of, runs_as}
 use Rattle.sqlite_tied.specs.Compute.{everything}
 use Rattle.sql_amounts.specs.declared.key.Ledger.{Ledger}
@@ -22,7 +23,9 @@ use Rattle.sql_tables.specs.Version.{SetsVersion}
 use Rattle.sql_sent.proofs.TableLemmas.{none_sent}
 use Rattle.sql_standings.proofs.StandingLemmas.{no_standings}
 use Rattle.sql_tables.specs.Control.{Begins, begin_text}
+use Rattle.sql_tables.specs.Ends.{ForCause}
 use Rattle.sql_tables.specs.Making.{IsEmpty}
+use Rattle.sql_tables.proofs.BlameLemmas.{IsWholeIn, control_caused_in}
 use Rattle.sql_tables.specs.Schema.{desk_schema, no_schema}
 use Rattle.sql_register.specs.Content.{content_in}
 use Rattle.sql_register.specs.Holds.{Becomes, Keeps, outstanding_in, paid_in_table}
@@ -51,6 +54,21 @@ begun_making old new has (Err e) h = tt
 pub begun_outside : (old new : State) → old.now.schema ≡ no_schema → (r : Result ℕ Error) → Executes begin_text [] old new r → OnOk r (old.in_transaction ≡ false)
 begun_outside old new has (Ok count) h = (runs_as begin_text [] old new no_schema has Begin begin_is begin_plain count h).0
 begun_outside old new has (Err e) h = tt
+
+begin_whole : IsWholeIn no_schema begin_text 0
+unfolding understood everything
+begin_whole = record { plain = (refl, refl); whole = refl; width_is = refl }
+
+begin_placed : (s : State) → s.in_transaction ≡ false → (e : Error) → ¬ IsMisplaced s Begin e
+begin_placed s outside e (inl (error, inl within)) = both_ways _ outside within.1
+begin_placed s outside e (inl (error, inr (inl commits, out))) = absurd (let x = commits in cc)
+begin_placed s outside e (inl (error, inr (inr rolls, out))) = absurd (let x = rolls in cc)
+begin_placed s outside e (inr (error, name, inl releases, unnamed)) = absurd (let x = releases in cc)
+begin_placed s outside e (inr (error, name, inr back, unnamed)) = absurd (let x = back in cc)
+
+-- and so it fails for its cause alone
+pub begin_caused : (old new : State) → old.now.schema ≡ no_schema → IsTrue old.is_open → old.in_transaction ≡ false → (r : Result ℕ Error) → Executes begin_text [] old new r → IfErr r (ForCause old new)
+begin_caused old new has open' outside r h = control_caused_in no_schema old new has open' begin_text [] begin_whole Begin refl (λ none. none) begin_is (begin_placed old outside) r h
 
 -- ---- no row, no content
 

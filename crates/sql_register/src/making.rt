@@ -9,8 +9,8 @@ ghost use Rattle.desk_register.specs.Changes.{empty_content};
 ghost use Rattle.desk_register.specs.declared.register.Stage.TheVariants.{Idle};
 ghost use Rattle.desk_rules.specs.declared.limits.TheConstants.{MOST_ENTRIES};
 ghost use Rattle.sql_tables.specs.Control.{Begins};
-ghost use Rattle.sql_tables.specs.Calls.{tables};
-ghost use Rattle.sql_tables.specs.Ends.{IsLater};
+ghost use Rattle.sql_tables.specs.Calls.{FailsForCause, tables};
+ghost use Rattle.sql_tables.specs.Ends.{ForCause, IsLater};
 ghost use Rattle.sql_tables.specs.Making.{KeepsCommitted};
 ghost use Rattle.sql_tables.specs.Schema.{no_schema};
 ghost use Rattle.sql_register.specs.Holds.{Becomes};
@@ -30,6 +30,7 @@ fn begin_making<S: Alter>(conn: &mut Connection<S>) -> Result<usize, Error>
     ensures ok { HasCleanDisk (state S.Store conn.new) → IsTrue (state S.Store conn.old).is_open → (tables S.Store conn.old).schema ≡ no_schema → OnOk result (Begins (state S.Store conn.old) (state S.Store conn.new)) }
     ensures outside { HasCleanDisk (state S.Store conn.new) → (tables S.Store conn.old).schema ≡ no_schema → OnOk result ((state S.Store conn.old).in_transaction ≡ false) }
     ensures kept { HasCleanDisk (state S.Store conn.new) → OnErr result (KeepsCommitted (state S.Store conn.old) (state S.Store conn.new)) }
+    ensures blame { HasCleanDisk (state S.Store conn.new) → IsTrue (state S.Store conn.old).is_open → (tables S.Store conn.old).schema ≡ no_schema → (state S.Store conn.old).in_transaction ≡ false → FailsForCause S.Store conn.old conn.new result }
     ensures later { IsLater (state S.Store conn.old) (state S.Store conn.new) }
 {
     conn.execute("BEGIN", &[])
@@ -51,6 +52,7 @@ fn make<S: Alter>(conn: &mut Connection<S>) -> Result<(), Error>
     ensures made { HasCleanDisk (state S.Store conn.new) → IsTrue (state S.Store conn.old).is_open → (tables S.Store conn.old).schema ≡ no_schema → OnOk result (IsMade (state S.Store conn.new)) }
     ensures outside { HasCleanDisk (state S.Store conn.new) → (tables S.Store conn.old).schema ≡ no_schema → OnOk result ((state S.Store conn.old).in_transaction ≡ false) }
     ensures kept { HasCleanDisk (state S.Store conn.new) → IsTrue (state S.Store conn.old).is_open → (tables S.Store conn.old).schema ≡ no_schema → OnErr result (KeepsCommitted (state S.Store conn.old) (state S.Store conn.new)) }
+    ensures blame { HasCleanDisk (state S.Store conn.new) → IsTrue (state S.Store conn.old).is_open → (tables S.Store conn.old).schema ≡ no_schema → (state S.Store conn.old).in_transaction ≡ false → FailsForCause S.Store conn.old conn.new result }
     ensures later { IsLater (state S.Store conn.old) (state S.Store conn.new) }
 {
     begin_making(conn)?;
@@ -89,6 +91,7 @@ impl<S: Alter + Drop> SqlRegister<S> {
         ensures closed { IfOk result (λ r. HasCleanDisk (state S.Store r.connection) → (state S.Store r.connection).in_transaction ≡ false) }
         ensures handed { IfErr result (λ e. IsLater (state S.Store conn) (state S.Store e.1)) }
         ensures kept { IfErr result (λ e. HasCleanDisk (state S.Store e.1) → KeepsCommitted (state S.Store conn) (state S.Store e.1)) }
+        ensures blame { IfErr result (λ e. HasCleanDisk (state S.Store e.1) → (tables S.Store conn).schema ≡ no_schema → (state S.Store conn).in_transaction ≡ false → ForCause (state S.Store conn) (state S.Store e.1) e.0) }
     {
         if !has_no_table(&conn) {
             return Err((Error::SqliteFailure(ErrorCode::CannotOpen), conn));

@@ -12,6 +12,7 @@ use Rattle.sqlite_sql.specs.Group.{Overflows}
 use Rattle.sqlite_sql.specs.Program.{QueryOverflows}
 use Rattle.sqlite.specs.Program.{overlay}
 use Rattle.sqlite.specs.Tree.{Trees, with_tree}
+use Rattle.sqlite.specs.Schema.{Schema}
 use Rattle.sqlite.specs.Table.{Table}
 use Rattle.sqlite.specs.Edit.{Edit, edit_of, edited, left_by, are_fresh, have_rowids, is_referred, IsRefused}
 use Rattle.sqlite.specs.Rowids.TheVariants.{Above, Chosen, Given}
@@ -54,10 +55,13 @@ abbrev pub width_in : Result Compiled CompileError → ℕ
 width_in (Ok c) = length c.names
 width_in (Err e) = 0
 
-pub record IsWhole (text : List ℕ) (width : ℕ) : Type 0 where
-  pub plain : IsPlain (understood desk_schema text)
-  pub whole : nat_le (length text) (tail_in (understood desk_schema text)) ≡ true
-  pub width_is : width_in (understood desk_schema text) ≡ width
+pub record IsWholeIn (schema : Schema) (text : List ℕ) (width : ℕ) : Type 0 where
+  pub plain : IsPlain (understood schema text)
+  pub whole : nat_le (length text) (tail_in (understood schema text)) ≡ true
+  pub width_is : width_in (understood schema text) ≡ width
+
+abbrev pub IsWhole : List ℕ → ℕ → Type 0
+IsWhole = IsWholeIn desk_schema
 
 -- ---- what an edit has to keep
 
@@ -95,7 +99,7 @@ no_rowid db edit none a TooDeep h = absurd h
 
 -- ---- the parts of an edit that is refused
 
-same_stop : {A E : Type 0} {x y : E} → ◌≡◌ {A = Result A E} (Err x) (Err y) → x ≡ y
+pub same_stop : {A E : Type 0} {x y : E} → ◌≡◌ {A = Result A E} (Err x) (Err y) → x ≡ y
 same_stop e = cc
 
 -- a part that has stopped stopped so
@@ -159,7 +163,7 @@ hidden_of (Update at q) h = refl
 hidden_of (Delete at q) h = refl
 hidden_of _ h = absurd (both_ways _ refl h)
 
-module _ (old new : State) (has : old.now.schema ≡ desk_schema) (open' : IsTrue old.is_open) (text : List ℕ) (params : Row) (whole' : IsWhole text (length params)) (e : Error) where
+module _ (schema : Schema) (old new : State) (has : old.now.schema ≡ schema) (open' : IsTrue old.is_open) (text : List ℕ) (params : Row) (whole' : IsWholeIn schema text (length params)) (e : Error) where
   not_statement : IsNoStatement old text params e → ⊥
   not_statement (inl bad) = subst IsPlain (sym (ap (λ s. understood s text) has) ∙ bad.1) whole'.plain
   not_statement (inr it) =
@@ -179,10 +183,10 @@ module _ (old new : State) (has : old.now.schema ≡ desk_schema) (open' : IsTru
 
   -- ---- a statement that shows no rows
 
-  module _ (command : Command) (hidden' : (is_query command || (true && (is_pragma command || false))) ≡ false) (is : command_of (understood desk_schema text) ≡ command) where
+  module _ (command : Command) (hidden' : (is_query command || (true && (is_pragma command || false))) ≡ false) (is : command_of (understood schema text) ≡ command) where
     -- it failed for its cause, or it was out of place, or the change was refused
-    refused_as : Executes text params old new (Err e)
-        → IsCaused old new e ⊎ (IsMisplaced old command e ⊎ (IsWrite command × Does old.step_limit (mode_of old) params old.now (statement_of text (understood desk_schema text)) None command (Err (Some e))))
+    pub refused_as : Executes text params old new (Err e)
+        → IsCaused old new e ⊎ (IsMisplaced old command e ⊎ (IsWrite command × Does old.step_limit (mode_of old) params old.now (statement_of text (understood schema text)) None command (Err (Some e))))
     unfolding ExecutesIn
     refused_as (inl none) = inl (not_run none)
     refused_as (inr h) =
@@ -201,6 +205,15 @@ module _ (old new : State) (has : old.now.schema ≡ desk_schema) (open' : IsTru
           | inr fails ↦ inl (gave_up old new _ e open' fails)
         ]
 
+module _ (schema : Schema) (old new : State) (has : old.now.schema ≡ schema) (open' : IsTrue old.is_open) (text : List ℕ) (params : Row) (whole' : IsWholeIn schema text (length params)) where
+  -- a statement that begins or ends a transaction
+  pub control_caused_in : (command : Command) → (is_query command || (true && (is_pragma command || false))) ≡ false → ¬ IsWrite command → command_of (understood schema text) ≡ command
+      → ((e : Error) → ¬ IsMisplaced old command e) → (r : Result ℕ Error) → Executes text params old new r → IfErr r (ForCause old new)
+  control_caused_in command hidden none is placed (Ok count) h = tt
+  control_caused_in command hidden none is placed (Err e) h = λ unlimited.
+      elim (refused_as schema old new has open' text params whole' e command hidden is h) [ inl caused ↦ caused | inr (inl misplaced) ↦ absurd (placed e misplaced) | inr (inr writes) ↦ absurd (none writes.0) ]
+
+module _ (old new : State) (has : old.now.schema ≡ desk_schema) (open' : IsTrue old.is_open) (text : List ℕ) (params : Row) (whole' : IsWhole text (length params)) (e : Error) where
   -- ---- a statement that changes rows
 
   module _ (command : Command) (changes : IsTrue (changes_rows command)) (is : command_of (understood desk_schema text) ≡ command) where
@@ -215,7 +228,7 @@ module _ (old new : State) (has : old.now.schema ≡ desk_schema) (open' : IsTru
     placed (inr (error, name, inr back, unnamed)) = no_other _ back refl
 
     refused : Executes text params old new (Err e) → IsCaused old new e ⊎ Does old.step_limit (mode_of old) params old.now (statement_of text (understood desk_schema text)) None command (Err (Some e))
-    refused h = elim (refused_as command (hidden_of command changes) is h) [ inl caused ↦ inl caused | inr (inl misplaced) ↦ absurd (placed misplaced) | inr (inr does) ↦ inr does.1 ]
+    refused h = elim (refused_as desk_schema old new has open' text params whole' e command (hidden_of command changes) is h) [ inl caused ↦ inl caused | inr (inl misplaced) ↦ absurd (placed misplaced) | inr (inr does) ↦ inr does.1 ]
 
     -- ---- which it does not refuse
 
@@ -322,7 +335,7 @@ module _ (old new : State) (has : old.now.schema ≡ desk_schema) (open' : IsTru
   query_caused body names is unlisted typed from group (Err e) h = λ unlimited. go unlimited h
     where
       go : old.step_limit ≡ None → FailsToQuery text params old new e → IsCaused old new e
-      go unlimited (inl none) = not_run old new has open' text params whole' e none
+      go unlimited (inl none) = not_run desk_schema old new has open' text params whole' e none
       go unlimited (inr h) =
           let known = sym h.1.is ∙ ap (λ s. understood s text) has in
           let bare = subst IsPlain (sym known) whole'.plain in
@@ -339,6 +352,4 @@ module _ (old new : State) (has : old.now.schema ≡ desk_schema) (open' : IsTru
 
   pub control_caused : (command : Command) → (is_query command || (true && (is_pragma command || false))) ≡ false → ¬ IsWrite command → command_of (understood desk_schema text) ≡ command
       → ((e : Error) → ¬ IsMisplaced old command e) → (r : Result ℕ Error) → Executes text params old new r → IfErr r (ForCause old new)
-  control_caused command hidden none is placed (Ok count) h = tt
-  control_caused command hidden none is placed (Err e) h = λ unlimited.
-      elim (refused_as old new has open' text params whole' e command hidden is h) [ inl caused ↦ caused | inr (inl misplaced) ↦ absurd (placed e misplaced) | inr (inr writes) ↦ absurd (none writes.0) ]
+  control_caused = control_caused_in desk_schema old new has open' text params whole'

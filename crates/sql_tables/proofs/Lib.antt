@@ -9,6 +9,7 @@ pub mod EndLemmas
 pub mod LookLemmas
 pub mod MadeLemmas
 pub mod MakingLemmas
+pub mod MakingCauses
 pub mod NumberedLemmas
 pub mod QueryLemmas
 pub mod ResultLemmas

@@ -29,13 +29,13 @@ one_more P (t ∷ ts) last all it = (all.0, one_more P ts last all.1 it)
 from_writes : (old new : State) (command : Command) (text : List ℕ) (count : ℕ) (after : Schema) → Writes old new None command text [] count → IsEmpty after new.now → HasMade after old new
 from_writes old new command text count after w empty = record { is_open = w.shown.is_open; empty = empty; mode = w.shown.mode; marks = w.marks; committed = λ inside. w.shown.committed_is ∙ ap (λ b. if b then old.committed else new.now) inside }
 
-module _ (old new : State) (text : List ℕ) (before after : Schema) (makes : Makes text before after) (was : IsEmpty before old.now) (count : ℕ) (h : Executes text [] old new (Ok count)) where
-  whole : statement_of text (understood before text) ≡ text
-  whole = ap (statement_of text) makes.understood_as ∙ makes.whole
+pub same_text : (text : List ℕ) (before after : Schema) → Makes text before after → statement_of text (understood before text) ≡ text
+same_text text before after makes = ap (statement_of text) makes.understood_as ∙ makes.whole
 
+module _ (old new : State) (text : List ℕ) (before after : Schema) (makes : Makes text before after) (was : IsEmpty before old.now) (count : ℕ) (h : Executes text [] old new (Ok count)) where
   table_made : MakesTable text before after → HasMade after old new
   table_made it =
-      let w = subst (λ t. Writes old new None CreateTable t [] count) whole (runs_as text [] old new before was.schema_is CreateTable (sym (same_command (understood before text)) ∙ it.makes) makes.plain count h) in
+      let w = subst (λ t. Writes old new None CreateTable t [] count) (same_text text before after makes) (runs_as text [] old new before was.schema_is CreateTable (sym (same_command (understood before text)) ∙ it.makes) makes.plain count h) in
       let all = went w.changed in
       let first = went all.1 in
       let made = first.1 in

@@ -7,7 +7,7 @@ use Rattle.sqlite.specs.Table.{Table}
 use Rattle.sqlite.specs.Tree.{Trees, with_tree}
 use Rattle.sqlite_schema.specs.Rules.{Keeps, passes}
 use Rattle.sqlite_schema.specs.declared.schema.Constraint.TheVariants.{Unique}
-use Rattle.sql_tables.specs.Schema.{desk_schema, balance_table, cash_table, total_table, register_table, state_table, sent_table, version_table}
+use Rattle.sql_tables.specs.Schema.{desk_schema, register_table, state_table, sent_table, version_table}
 
 -- no two of a table's new rows have the same key
 abbrev pub AreUnique : Table → Trees → List Row → Type 0

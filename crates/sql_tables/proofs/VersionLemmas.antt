@@ -1,7 +1,14 @@
 -- What the texts mean that read and say the version, and what the first shows.
-use Rattle.std.proofs.Common.{◌≡◌, inl, inr, ℕ, pos, List, [], ◌∷◌, None, Some, Ok, Option, refl, sym, ap, subst, ◌∙◌, arith, codes}
-use Rattle.sqlite.specs.Effect.{Database}
-use Rattle.sqlite.specs.Order.{Row}
+use Rattle.std.proofs.Common.{◌≡◌, ◌&&◌, inl, inr, ℕ, pos, not, true, false, List, [], ◌∷◌, None, Some, Ok, Err, Option, Result, Vec, IfErr, IsTrue, refl, sym, ap, subst, ◌∙◌, arith, codes}
+use Rattle.std.specs.List.{list_any}
+use Rattle.std.specs.Ordering.{is_eq}
+use Rattle.std.specs.declared.alloc.Global.{Global}
+use Rattle.sqlite.specs.Effect.{Database, IsDatabase, value_rows}
+use Rattle.sqlite.specs.Rows.{stamped}
+use Rattle.sqlite.specs.declared.error.Error.{Error}
+use Rattle.sqlite_schema.specs.Rules.{Keeps}
+use Rattle.sqlite_schema.specs.declared.schema.Constraint.TheVariants.{Unique}
+use Rattle.sqlite.specs.Order.{Row, value_cmp}
 use Rattle.sqlite.specs.declared.types.Value.TheVariants.{Null, Int}
 use Rattle.sqlite.specs.Term.{Term, lit, col, eval_all}
 use Rattle.sqlite.specs.Command.TheVariants.{Select, Insert}
@@ -10,16 +17,18 @@ use Rattle.sqlite.specs.Listing.{understood}
 use Rattle.sqlite.specs.Program.{overlay}
 use Rattle.sqlite.specs.Edit.{edit_of, put_all}
 use Rattle.sqlite.specs.Rowids.TheVariants.{Chosen}
-use Rattle.sqlite.specs.Tree.{put_row}
-use Rattle.sqlite.specs.State.{State, Executes, Shown}
+use Rattle.sqlite.specs.Tree.{Trees, put_row, rowid}
+use Rattle.sqlite.specs.State.{State, Executes, FailsToQuery, Shown}
 use Rattle.sqlite.proofs.Callers.{command_of, reads_as}
 use Rattle.sqlite_tied.specs.Compute.{everything}
 use Rattle.sql_tables.specs.Schema.{desk_schema, version_table}
 use Rattle.sql_tables.specs.Statements.{IsEdit, IsQuery}
-use Rattle.sql_tables.specs.Ends.{SparesOthers}
+use Rattle.sql_tables.specs.Ends.{ForCause, SparesOthers}
 use Rattle.sql_tables.specs.Queries.{first_of, rising, Among, IsFirst}
 use Rattle.sql_tables.specs.Rows.{number_rows}
 use Rattle.sql_tables.specs.Version.{HasVersion, SayVersion, SetsVersion}
+use Rattle.sql_tables.proofs.BlameLemmas.{IsAllowed, IsWhole, insert_caused, query_caused}
+use Rattle.sql_tables.proofs.UniqueLemmas.{unique_version}
 use Rattle.sql_tables.proofs.EditLemmas.{inserts, spares}
 use Rattle.sql_tables.proofs.QueryLemmas.{all_kept, first_row}
 use Rattle.sql_tables.proofs.ValueLemmas.{cast_int, cast_null}
@@ -79,6 +88,44 @@ module _ (old new : State) (has : old.now.schema ≡ desk_schema) where
   sets number count none h =
       let it = version_put number count h in
       record { version = (Null ∷ [], inl refl, it.0 ∙ ap (put_row (Int (pos number) ∷ Null ∷ [])) none); others = it.1 }
+
+-- ---- why they fail
+
+version_whole : IsWhole version_text 0
+unfolding understood everything
+version_whole = record { plain = (refl, refl); whole = refl; width_is = refl }
+
+set_whole : IsWhole set_text 1
+unfolding understood everything
+set_whole = record { plain = (refl, refl); whole = refl; width_is = refl }
+
+abbrev row_of : ℕ → Row
+row_of number = Int (pos number) ∷ Null ∷ []
+
+version_news : (db : Trees) (number : ℕ) (rows : List Row) → rows ≡ value_rows (stamped version_table (Int (pos number) ∷ [])) 2 1 set_terms → (edit_of db version_table [] Chosen 0 rows).news ≡ row_of number ∷ []
+version_news db number rows is = ap (λ all. (edit_of db version_table [] Chosen 0 all).news) is ∙ rw (cast_int (pos number), cast_null) refl
+
+-- the only row obeys the table
+version_allowed : (db : Trees) (number : ℕ) (news : List Row) → db 10 ≡ [] → Keeps Unique desk_schema db → news ≡ row_of number ∷ [] → IsAllowed db (record { table = version_table; gone = []; news = news })
+version_allowed db number news none kept is =
+    let taken : list_any (λ r. is_eq (value_cmp (rowid r) (Int (pos number)))) (db 10) ≡ false = ap (list_any (λ r. is_eq (value_cmp (rowid r) (Int (pos number))))) none in
+    subst (λ news. IsAllowed db (record { table = version_table; gone = []; news = news })) (sym is)
+    (record { rowids = refl; typed = refl; present = refl; checked = refl; fresh = ap (λ b. not b && true) taken; unique = unique_version db (put_row (row_of number) (db 10)) kept })
+
+module _ (old new : State) (has : old.now.schema ≡ desk_schema) (open' : IsTrue old.is_open) where
+  pub version_caused : (r : Result (Vec Row Global) Error) → IfErr r (FailsToQuery version_text [] old new) → IfErr r (ForCause old new)
+  version_caused r h = query_caused old new has open' version_text [] version_whole _ _ version_is version_query.unlisted refl refl refl r h
+
+  pub set_caused : IsDatabase old.now → (number : ℕ) → HasVersion old.now None → (r : Result ℕ Error) → Executes set_text (Int (pos number) ∷ []) old new r → IfErr r (ForCause old new)
+  set_caused obeyed number none (Ok count) h = tt
+  set_caused obeyed number none (Err e) h = λ unlimited.
+      let kept = subst (λ s. Keeps Unique s old.now.trees) has (obeyed.obeys.rules Unique) in
+      insert_caused old new has open' unlimited set_text (Int (pos number) ∷ []) set_whole 6 version_table refl refl set_terms 2 refl set_is refl
+      (λ rows is. version_allowed old.now.trees number (edit_of old.now.trees version_table [] Chosen 0 rows).news none kept (version_news old.now.trees number rows is)) e h
+
+-- a version that is read is no failure
+pub read_caused : {E : Type 0} (r : Result (Option ℕ) E) (number : Option ℕ) (P : E → Type 0) → r ≡ Ok number → IfErr r P
+read_caused r number P is = subst (λ r. IfErr r P) (sym is) tt
 
 pub no_version : (db : Database) → db.trees 10 ≡ [] → HasVersion db None
 no_version db empty = empty

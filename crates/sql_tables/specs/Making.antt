@@ -1,6 +1,10 @@
 -- How the tables are made, in a database that has none: one statement for each table, which makes the index of its key with it.
-use Rattle.std.specs.Prelude.{◌≡◌, ℕ, List, [], false, IsTrue, take, Ok}
-use Rattle.std.specs.List.{AllByRecursion}
+use Rattle.std.specs.Prelude.{◌≡◌, ℕ, ◌+◌, ◌^◌, List, [], length, Bool, true, false, not, IsTrue, codes, nat_le, nat_lt, take, Ok}
+use Rattle.std.specs.List.{AllByRecursion, list_all}
+use Rattle.sqlite.specs.declared.types.Value.TheVariants.{Text}
+use Rattle.sqlite_catalog.specs.Change.{automatics, is_reserved, is_used, next_tree}
+use Rattle.sqlite_catalog.specs.Listing.{is_fit, is_formed}
+use Rattle.sqlite_schema.specs.Rules.{index_reals, table_reals}
 use Rattle.sqlite.specs.Table.{Table}
 use Rattle.sqlite.specs.Schema.{Schema}
 use Rattle.sqlite_schema.specs.declared.command.Command.TheVariants.{CreateTable}
@@ -26,11 +30,32 @@ pub record MakesTable (text : List ℕ) (before after : Schema) : Type 0 where
   pub makes : command_in (understood before text) ≡ CreateTable
   pub is : after ≡ created before table
 
--- compiled against the tables before it, the text is one whole statement that makes what comes next
+abbrev pub is_ascii : List ℕ → Bool
+is_ascii text = list_all (λ c. nat_lt c 128) text
+
+-- what the text names is free, and of a form that a table may have
+pub record IsFree (text : List ℕ) (before : Schema) : Type 0 where
+  pub table : Table
+  pub defined : table_defined_by text ≡ Ok table
+  pub unused : is_used before table.name ≡ false
+  pub unlisted : list_all (λ index. not (is_used before index.name)) (automatics table 0 0 table.uniques) ≡ true
+  pub unreserved : is_reserved table.name ≡ false
+  pub plain_name : is_ascii table.name ≡ true
+  pub plain : is_ascii text ≡ true
+  pub room : nat_lt (next_tree before + length table.uniques) 65536 ≡ true
+  pub reals : nat_lt (table_reals table) (2 ^ 64) ≡ true
+  pub index_reals : list_all (λ key. nat_lt (index_reals (table_reals table) key) (2 ^ 64)) table.uniques ≡ true
+  pub formed : is_formed table ≡ true
+  pub fits : is_fit (Text (codes "table")) (Text table.name) (Text table.name) (Text text) ≡ true
+
+-- compiled against the tables before it, the text is one whole statement that makes what comes next, and nothing refuses it
 pub record Makes (text : List ℕ) (before after : Schema) : Type 0 where
   pub compiled : Compiled
   pub understood_as : understood before text ≡ Ok compiled
   pub whole : text_of text compiled ≡ text
+  pub ends : nat_le (length text) compiled.tail ≡ true
+  pub unnamed : compiled.names ≡ []
+  pub free : IsFree text before
   pub plain : IsPlain (understood before text)
   pub unsequenced : lacks_sequence after ≡ false
   pub made : MakesTable text before after

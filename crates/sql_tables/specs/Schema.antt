@@ -1,6 +1,6 @@
 -- The tables of the desk, as the statements that make them define them: in this order, and nothing else. There is no index but
 -- those of keys, which SQLite makes with their tables. TABLES and INDEXES are their outlines.
-use Rattle.std.specs.Prelude.{true, false, not, if◌then◌else◌, [], ◌∷◌, Option, None, Some, codes, List, ℕ, Bool, map, pos, slice_index_or}
+use Rattle.std.specs.Prelude.{true, false, not, if◌then◌else◌, [], ◌∷◌, Option, None, Some, List, ℕ, Bool, map, pos, slice_index_or}
 use Rattle.sqlite.specs.Collation.TheVariants.{Binary}
 use Rattle.sqlite.specs.declared.types.Value.TheVariants.{Null, Int}
 use Rattle.sqlite.specs.Table.{Table}

@@ -5,7 +5,7 @@ ghost use Rattle.sqlite.specs.State.{HasCleanDisk};
 ghost use Rattle.sqlite.specs.Held.{state};
 ghost use Rattle.sqlite.specs.Schema.{Schema};
 ghost use Rattle.sql_tables.specs.Schema.{desk_schema, no_schema};
-ghost use Rattle.sql_tables.specs.Calls.{tables};
+ghost use Rattle.sql_tables.specs.Calls.{FailsForCause, tables};
 ghost use Rattle.sql_tables.specs.Ends.{IsLater};
 ghost use Rattle.sql_tables.specs.Making.{first_of, Makes, IsEmpty, HasMade, KeepsCommitted};
 
@@ -18,6 +18,7 @@ use sqlite::{Alter, Connection, Error};
 fn make<S: Alter>(conn: &mut Connection<S>, text: &str) -> Result<usize, Error>
     ensures made { HasCleanDisk (state S.Store conn.new) → IsTrue (state S.Store conn.old).is_open → (before after : Schema) → Makes text.now before after → IsEmpty before (tables S.Store conn.old) → OnOk result (HasMade after (state S.Store conn.old) (state S.Store conn.new)) }
     ensures kept { HasCleanDisk (state S.Store conn.new) → OnErr result (KeepsCommitted (state S.Store conn.old) (state S.Store conn.new)) }
+    ensures blame { HasCleanDisk (state S.Store conn.new) → IsTrue (state S.Store conn.old).is_open → (before after : Schema) → Makes text.now before after → IsEmpty before (tables S.Store conn.old) → FailsForCause S.Store conn.old conn.new result }
     ensures later { IsLater (state S.Store conn.old) (state S.Store conn.new) }
 {
     conn.execute(text, &[])
@@ -27,6 +28,7 @@ fn make<S: Alter>(conn: &mut Connection<S>, text: &str) -> Result<usize, Error>
 fn make_amounts<S: Alter>(conn: &mut Connection<S>) -> Result<(), Error>
     ensures made { HasCleanDisk (state S.Store conn.new) → IsTrue (state S.Store conn.old).is_open → IsEmpty no_schema (tables S.Store conn.old) → OnOk result (HasMade (first_of 3 3) (state S.Store conn.old) (state S.Store conn.new)) }
     ensures kept { HasCleanDisk (state S.Store conn.new) → IsTrue (state S.Store conn.old).is_open → IsTrue (state S.Store conn.old).in_transaction → IsEmpty no_schema (tables S.Store conn.old) → OnErr result (KeepsCommitted (state S.Store conn.old) (state S.Store conn.new)) }
+    ensures blame { HasCleanDisk (state S.Store conn.new) → IsTrue (state S.Store conn.old).is_open → IsEmpty no_schema (tables S.Store conn.old) → FailsForCause S.Store conn.old conn.new result }
     ensures later { IsLater (state S.Store conn.old) (state S.Store conn.new) }
 {
     make(conn, MAKES_BALANCE)?;
@@ -39,6 +41,7 @@ fn make_amounts<S: Alter>(conn: &mut Connection<S>) -> Result<(), Error>
 fn make_register<S: Alter>(conn: &mut Connection<S>) -> Result<(), Error>
     ensures made { HasCleanDisk (state S.Store conn.new) → IsTrue (state S.Store conn.old).is_open → IsEmpty (first_of 3 3) (tables S.Store conn.old) → OnOk result (HasMade (first_of 5 4) (state S.Store conn.old) (state S.Store conn.new)) }
     ensures kept { HasCleanDisk (state S.Store conn.new) → IsTrue (state S.Store conn.old).is_open → IsTrue (state S.Store conn.old).in_transaction → IsEmpty (first_of 3 3) (tables S.Store conn.old) → OnErr result (KeepsCommitted (state S.Store conn.old) (state S.Store conn.new)) }
+    ensures blame { HasCleanDisk (state S.Store conn.new) → IsTrue (state S.Store conn.old).is_open → IsEmpty (first_of 3 3) (tables S.Store conn.old) → FailsForCause S.Store conn.old conn.new result }
     ensures later { IsLater (state S.Store conn.old) (state S.Store conn.new) }
 {
     make(conn, MAKES_REGISTER)?;
@@ -50,6 +53,7 @@ fn make_register<S: Alter>(conn: &mut Connection<S>) -> Result<(), Error>
 fn make_messages<S: Alter>(conn: &mut Connection<S>) -> Result<(), Error>
     ensures made { HasCleanDisk (state S.Store conn.new) → IsTrue (state S.Store conn.old).is_open → IsEmpty (first_of 5 4) (tables S.Store conn.old) → OnOk result (HasMade desk_schema (state S.Store conn.old) (state S.Store conn.new)) }
     ensures kept { HasCleanDisk (state S.Store conn.new) → IsTrue (state S.Store conn.old).is_open → IsTrue (state S.Store conn.old).in_transaction → IsEmpty (first_of 5 4) (tables S.Store conn.old) → OnErr result (KeepsCommitted (state S.Store conn.old) (state S.Store conn.new)) }
+    ensures blame { HasCleanDisk (state S.Store conn.new) → IsTrue (state S.Store conn.old).is_open → IsEmpty (first_of 5 4) (tables S.Store conn.old) → FailsForCause S.Store conn.old conn.new result }
     ensures later { IsLater (state S.Store conn.old) (state S.Store conn.new) }
 {
     make(conn, MAKES_SENT)?;
@@ -61,6 +65,7 @@ fn make_messages<S: Alter>(conn: &mut Connection<S>) -> Result<(), Error>
 pub fn make_tables<S: Alter>(conn: &mut Connection<S>) -> Result<(), Error>
     ensures made { HasCleanDisk (state S.Store conn.new) → IsTrue (state S.Store conn.old).is_open → IsEmpty no_schema (tables S.Store conn.old) → OnOk result (HasMade desk_schema (state S.Store conn.old) (state S.Store conn.new)) }
     ensures kept { HasCleanDisk (state S.Store conn.new) → IsTrue (state S.Store conn.old).is_open → IsTrue (state S.Store conn.old).in_transaction → IsEmpty no_schema (tables S.Store conn.old) → OnErr result (KeepsCommitted (state S.Store conn.old) (state S.Store conn.new)) }
+    ensures blame { HasCleanDisk (state S.Store conn.new) → IsTrue (state S.Store conn.old).is_open → IsEmpty no_schema (tables S.Store conn.old) → FailsForCause S.Store conn.old conn.new result }
     ensures later { IsLater (state S.Store conn.old) (state S.Store conn.new) }
 {
     make_amounts(conn)?;

@@ -4,7 +4,11 @@ use Rattle.sqlite.specs.State.{HasCleanDisk}
 use Rattle.desk_register.specs.Changes.{empty_content}
 use Rattle.sql_tables.specs.declared.version.TheConstants.{VERSION}
 use Rattle.sql_tables.specs.Version.{HasVersion}
+use Rattle.sql_tables.specs.Ends.{ForCause}
+use Rattle.sql_tables.proofs.CallLemmas.{later_then}
+use Rattle.sql_tables.proofs.MakingCauses.{caused_on}
 use Rattle.sql_tables.proofs.MakingLemmas.{kept_then}
+use Rattle.sql_tables.proofs.ResultLemmas.{on_error}
 use Rattle.sql_tables.proofs.VersionLemmas.{no_version}
 use Rattle.sql_register.specs.Holds.{Becomes}
 use Rattle.sql_register.proofs.MadeLemmas.{fallen_kept, written_kept}
@@ -81,3 +85,49 @@ returns-in_err-commit-clause-kept g c clean is_open blank =
     let stays = c.in_ok-set_version.ensures.write.ok clean3 made.is_open made.empty.schema_is in
     kept_then c.from_residual-in_err-commit.result s0 s3 s4 (stays.committed (made.mode ∙ begun.mode) ∙ made.committed begun.mode ∙ begun.committed)
     (fallen_kept s3 s4 (c.in_err-commit.ensures.err clean stays.is_open stays.schema))
+
+pub returns-in_err-begin_making-clause-blame : goal.returns-in_err-begin_making-clause-blame
+returns-in_err-begin_making-clause-blame g c clean is_open blank outside =
+    on_error c.from_residual.result c.in_err-begin_making.field-0.0 (ForCause (state g.S.Store c.args.conn.now) (state g.S.Store c.begin_making.new.conn)) c.from_residual.ensures.1
+    (c.in_err-begin_making.ensures.blame clean is_open blank outside)
+
+pub returns-in_err-make_tables-clause-blame : goal.returns-in_err-make_tables-clause-blame
+returns-in_err-make_tables-clause-blame g c clean is_open blank outside =
+    let s0 = state g.S.Store c.args.conn.now in
+    let s1 = state g.S.Store c.begin_making.new.conn in
+    let s2 = state g.S.Store c.make_tables.new.conn in
+    let clean1 : HasCleanDisk s1 = omega (arith, clean, c.make_tables.ensures.later.clean) in
+    let begun = c.in_ok-begin_making.ensures.ok clean1 is_open blank in
+    caused_on c.from_residual-in_err-make_tables.result c.in_err-make_tables.field-0.0 s0 s1 s2 c.from_residual-in_err-make_tables.ensures.1 c.begin_making.ensures.later c.make_tables.ensures.later
+    (c.in_err-make_tables.ensures.blame clean begun.is_open (blank_empty s1.now (ap (λ d. d.schema) begun.now ∙ blank)))
+
+pub returns-in_err-set_version-clause-blame : goal.returns-in_err-set_version-clause-blame
+returns-in_err-set_version-clause-blame g c clean is_open blank outside =
+    let s0 = state g.S.Store c.args.conn.now in
+    let s1 = state g.S.Store c.begin_making.new.conn in
+    let s2 = state g.S.Store c.make_tables.new.conn in
+    let s3 = state g.S.Store c.set_version.new.conn in
+    let clean2 : HasCleanDisk s2 = omega (arith, clean, c.set_version.ensures.write.later.clean) in
+    let clean1 : HasCleanDisk s1 = omega (arith, clean2, c.make_tables.ensures.later.clean) in
+    let begun = c.in_ok-begin_making.ensures.ok clean1 is_open blank in
+    let made = c.in_ok-make_tables.ensures.made clean2 begun.is_open (blank_empty s1.now (ap (λ d. d.schema) begun.now ∙ blank)) in
+    let later = later_then s0 s1 s2 c.begin_making.ensures.later c.make_tables.ensures.later in
+    caused_on c.from_residual-in_err-set_version.result c.in_err-set_version.field-0.0 s0 s2 s3 c.from_residual-in_err-set_version.ensures.1 later c.set_version.ensures.write.later
+    (c.in_err-set_version.ensures.blame clean made.is_open made.empty.schema_is (no_version s2.now made.empty.empty.1.1.1.1.1.1.0))
+
+pub returns-in_err-commit-clause-blame : goal.returns-in_err-commit-clause-blame
+returns-in_err-commit-clause-blame g c clean is_open blank outside =
+    let s0 = state g.S.Store c.args.conn.now in
+    let s1 = state g.S.Store c.begin_making.new.conn in
+    let s2 = state g.S.Store c.make_tables.new.conn in
+    let s3 = state g.S.Store c.set_version.new.conn in
+    let s4 = state g.S.Store c.commit.new.conn in
+    let clean3 : HasCleanDisk s3 = omega (arith, clean, c.commit.ensures.later.clean) in
+    let clean2 : HasCleanDisk s2 = omega (arith, clean3, c.set_version.ensures.write.later.clean) in
+    let clean1 : HasCleanDisk s1 = omega (arith, clean2, c.make_tables.ensures.later.clean) in
+    let begun = c.in_ok-begin_making.ensures.ok clean1 is_open blank in
+    let made = c.in_ok-make_tables.ensures.made clean2 begun.is_open (blank_empty s1.now (ap (λ d. d.schema) begun.now ∙ blank)) in
+    let stays = c.in_ok-set_version.ensures.write.ok clean3 made.is_open made.empty.schema_is in
+    let later = later_then s0 s2 s3 (later_then s0 s1 s2 c.begin_making.ensures.later c.make_tables.ensures.later) c.set_version.ensures.write.later in
+    caused_on c.from_residual-in_err-commit.result c.in_err-commit.field-0.0 s0 s3 s4 c.from_residual-in_err-commit.ensures.1 later c.commit.ensures.later
+    (c.in_err-commit.ensures.blame clean stays.is_open stays.schema (stays.mode ∙ made.mode ∙ begun.mode))
