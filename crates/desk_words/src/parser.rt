@@ -2,9 +2,9 @@
 ghost use Rattle.std.specs.Prelude.{◌≡◌, false, IfOk};
 ghost use Rattle.std.specs.Result.{IsOkAnd};
 ghost use Rattle.clap.specs.Simple.{shape_of};
-ghost use Rattle.clap.specs.Words.{app_of, rule_of, with_subcommand};
+ghost use Rattle.clap.specs.Words.{app_of, rule_of, with_rule, with_subcommand};
 ghost use Rattle.clap.specs.declared.builder.command.Command.TheViews.{out-Command};
-ghost use Rattle.desk_words.specs.Words.{account_rule, bare_app, bic_rule, check_app, count_rule, db_rule, desk_app, drop_app, explain_app, from_rule, holdings_app, in_rule, isin_app, journal_app, json_rule, needed_db_rule, out_rule, part_rule, play_app, port_rule, read_app, report_app, serve_app, sums_app};
+ghost use Rattle.desk_words.specs.Words.{account_rule, bare_app, bic_rule, cause_rule, check_app, count_rule, db_rule, desk_app, drop_app, explain_app, from_rule, holdings_app, in_rule, isin_app, journal_app, json_rule, needed_db_rule, out_rule, part_rule, play_app, port_rule, read_app, report_app, serve_app, sums_app, type_rule};
 
 use crate::helps::{
     CHECK, DROP, EXPLAIN, HOLDINGS, ISIN, JOURNAL, PLAY, PROGRAM, READ, REPORT, SERVE, SUMS,
@@ -46,6 +46,22 @@ fn with<'a>(
     command.subcommand(subcommand?)
 }
 
+/// With three arguments.
+fn with_three<'a>(
+    command: Command<'a>,
+    first: Arg<'a>,
+    second: Arg<'a>,
+    third: Arg<'a>,
+) -> Result<Command<'a>, AllocError>
+    requires first { first.global ≡ false }
+    requires second { second.global ≡ false }
+    requires third { third.global ≡ false }
+    ensures app { IfOk result (λ added. app_of added ≡ with_rule (with_rule (with_rule (app_of command.entry) (rule_of first.entry)) (rule_of second.entry)) (rule_of third.entry)) }
+    ensures local { (out-Command command.entry).has_globals ≡ false → IfOk result (λ added. (out-Command added).has_globals ≡ false) }
+{
+    command.arg(first)?.arg(second)?.arg(third)
+}
+
 /// The program, without its subcommands.
 fn bare<'a>(alloc: Global) -> Command<'a>
     ensures { app_of result ≡ bare_app }
@@ -78,13 +94,7 @@ fn read<'a>(alloc: Global) -> Result<Command<'a>, AllocError>
     Command::new(alloc, "read")
         .about("Reads a settlement instruction, block 4, from standard input")
         .after_help(READ)
-        .arg(
-            Arg::new(alloc, "mt")
-                .value_name("MT")
-                .help("The type of the message, 540 to 543")
-                .required(true)
-                .value_parser(value_parser!(u16).range(540..=543)),
-        )
+        .arg(message_type(alloc))
 }
 
 fn play<'a>(alloc: Global) -> Result<Command<'a>, AllocError>
@@ -117,38 +127,37 @@ fn explain<'a>(alloc: Global) -> Result<Command<'a>, AllocError>
     Command::new(alloc, "explain")
         .about("Tells what a refusal or a fault means, and what to do about it")
         .after_help(EXPLAIN)
-        .arg(
-            Arg::new(alloc, "number")
-                .value_name("N")
-                .help("Its number, as 12 of `refused 12`; without it all are told")
-                .value_parser(value_parser!(u8).range(1..=99)),
-        )
+        .arg(cause(alloc))
 }
 
 fn serve<'a>(alloc: Global) -> Result<Command<'a>, AllocError>
     ensures app { IfOk result (λ command. app_of command ≡ serve_app) }
     ensures local { IfOk result (λ command. (out-Command command).has_globals ≡ false) }
 {
-    Command::new(alloc, "serve")
-        .about(
-            "Serves requests over HTTP on 127.0.0.1, one connection after another, on the desk of a file, or one in memory",
-        )
-        .after_help(SERVE)
-        .arg(db(alloc))?
-        .arg(port(alloc))?
-        .arg(count(alloc))
+    with_three(
+        Command::new(alloc, "serve")
+            .about(
+                "Serves requests over HTTP on 127.0.0.1, one connection after another, on the desk of a file, or one in memory",
+            )
+            .after_help(SERVE),
+        db(alloc),
+        port(alloc),
+        count(alloc),
+    )
 }
 
 fn holdings<'a>(alloc: Global) -> Result<Command<'a>, AllocError>
     ensures app { IfOk result (λ command. app_of command ≡ holdings_app) }
     ensures local { IfOk result (λ command. (out-Command command).has_globals ≡ false) }
 {
-    Command::new(alloc, "holdings")
-        .about("Prints what a participant's account holds, by the desk of a file")
-        .after_help(HOLDINGS)
-        .arg(needed_db(alloc))?
-        .arg(bic(alloc))?
-        .arg(account(alloc))
+    with_three(
+        Command::new(alloc, "holdings")
+            .about("Prints what a participant's account holds, by the desk of a file")
+            .after_help(HOLDINGS),
+        needed_db(alloc),
+        bic(alloc),
+        account(alloc),
+    )
 }
 
 fn sums<'a>(alloc: Global) -> Result<Command<'a>, AllocError>
@@ -165,42 +174,69 @@ fn report<'a>(alloc: Global) -> Result<Command<'a>, AllocError>
     ensures app { IfOk result (λ command. app_of command ≡ report_app) }
     ensures local { IfOk result (λ command. (out-Command command).has_globals ≡ false) }
 {
-    Command::new(alloc, "report")
-        .about(
-            "Tells what stands at this moment, by the desk of a file, or by a script from standard input",
-        )
-        .after_help(REPORT)
-        .arg(part(alloc))?
-        .arg(json(alloc))?
-        .arg(shown_db(alloc))
+    with_three(
+        Command::new(alloc, "report")
+            .about(
+                "Tells what stands at this moment, by the desk of a file, or by a script from standard input",
+            )
+            .after_help(REPORT),
+        part(alloc),
+        json(alloc),
+        shown_db(alloc),
+    )
 }
 
 fn journal<'a>(alloc: Global) -> Result<Command<'a>, AllocError>
     ensures app { IfOk result (λ command. app_of command ≡ journal_app) }
     ensures local { IfOk result (λ command. (out-Command command).has_globals ≡ false) }
 {
-    Command::new(alloc, "journal")
-        .about(
-            "Tells what was accepted, entry by entry, and how it fares, by the desk of a file, or by a script from standard input",
-        )
-        .after_help(JOURNAL)
-        .arg(from(alloc))?
-        .arg(json(alloc))?
-        .arg(shown_db(alloc))
+    with_three(
+        Command::new(alloc, "journal")
+            .about(
+                "Tells what was accepted, entry by entry, and how it fares, by the desk of a file, or by a script from standard input",
+            )
+            .after_help(JOURNAL),
+        from(alloc),
+        json(alloc),
+        shown_db(alloc),
+    )
 }
 
 fn folder<'a>(alloc: Global) -> Result<Command<'a>, AllocError>
     ensures app { IfOk result (λ command. app_of command ≡ drop_app) }
     ensures local { IfOk result (λ command. (out-Command command).has_globals ≡ false) }
 {
-    Command::new(alloc, "drop")
-        .about(
-            "Takes the files of a folder on the desk of a file, and writes the answers into another folder",
-        )
-        .after_help(DROP)
-        .arg(made_db(alloc))?
-        .arg(coming_in(alloc))?
-        .arg(going_out(alloc))
+    with_three(
+        Command::new(alloc, "drop")
+            .about(
+                "Takes the files of a folder on the desk of a file, and writes the answers into another folder",
+            )
+            .after_help(DROP),
+        made_db(alloc),
+        coming_in(alloc),
+        going_out(alloc),
+    )
+}
+
+fn message_type<'a>(alloc: Global) -> Arg<'a>
+    ensures rule { rule_of result ≡ type_rule }
+    ensures local { result.global ≡ false }
+{
+    Arg::new(alloc, "mt")
+        .value_name("MT")
+        .help("The type of the message, 540 to 543")
+        .required(true)
+        .value_parser(value_parser!(u16).range(540..=543))
+}
+
+fn cause<'a>(alloc: Global) -> Arg<'a>
+    ensures rule { rule_of result ≡ cause_rule }
+    ensures local { result.global ≡ false }
+{
+    Arg::new(alloc, "number")
+        .value_name("N")
+        .help("Its number, as 12 of `refused 12`; without it all are told")
+        .value_parser(value_parser!(u8).range(1..=99))
 }
 
 fn db<'a>(alloc: Global) -> Arg<'a>
