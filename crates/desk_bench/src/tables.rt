@@ -3,6 +3,7 @@
 ghost use Rattle.std.specs.Prelude.{false};
 ghost use Rattle.sqlite.specs.Held.{state};
 ghost use Rattle.desk_engine.specs.Ready.{IsReady};
+ghost use Rattle.desk_mirror.specs.Both.{shown as shown_of_both};
 ghost use Rattle.desk_opening.specs.Opened.{view_of_both};
 ghost use Rattle.sql_register.specs.Kept.{shown};
 
@@ -10,11 +11,12 @@ use crate::failure::Failure;
 use desk_book::Desk;
 use desk_mirror::MirroredRegister;
 use desk_opening::{Silent, adopt, adopt_tables, open_file, open_tables};
-use desk_register::Register;
+use desk_register::{MemoryRegister, Register, ToldRegister};
 use desk_rules::MOST_ENTRIES;
 use memory_register::ListRegister;
 use sql_register::SqlRegister;
-use sqlite::{Alter, Connection, MemStore, Unknown};
+use sqlite::{Alter, Connection, FileStore, MemStore, Unknown};
+use sqlite_disk::Disk;
 use std::io;
 
 /// What a script is played over.
@@ -37,6 +39,15 @@ impl Registers {
     }
 }
 
+/// What is done over a register.
+#[derive(Clone, Copy)]
+enum Deed {
+    /// The script of standard input is played
+    Play,
+    /// Its sums are told, and how many entries it has
+    Tell,
+}
+
 /// Plays the script of standard input on a desk over a register, prints the answers, and gives the register back.
 fn play<D: Register + Drop>(rt: &HostRuntime, register: D) -> Result<D, Failure>
     requires { IsReady false (D.view register) }
@@ -46,18 +57,7 @@ fn play<D: Register + Drop>(rt: &HostRuntime, register: D) -> Result<D, Failure>
     Ok(desk.into_register())
 }
 
-/// The same over tables with a register in memory beside them, of which the connection is given back.
-fn play_over_both<S: Alter + Drop>(
-    rt: &HostRuntime,
-    both: MirroredRegister<ListRegister, SqlRegister<S>>,
-) -> Result<Connection<S>, Failure>
-    requires { IsReady false (view_of_both S.Store both) }
-{
-    let (_, tables) = play(rt, both)?.into_parts();
-    Ok(tables.into_connection())
-}
-
-/// The same over the tables alone.
+/// The same over tables alone.
 fn play_over_tables<S: Alter + Drop>(
     rt: &HostRuntime,
     tables: SqlRegister<S>,
@@ -76,7 +76,7 @@ pub fn play_script(
     limit: u64,
 ) -> Result<bool, Failure> {
     match (path, registers) {
-        (Some(path), Registers::Both) => play_on_file(rt, path, limit)?,
+        (Some(path), Registers::Both) => do_on_file(rt, path, limit, Deed::Play)?,
         (Some(path), Registers::Tables) => play_on_tables(rt, path)?,
         (None, Registers::Both) => drop(play_in_memory(rt)?),
         (None, Registers::Tables) => play_on_tables_in_memory(rt)?,
@@ -86,10 +86,7 @@ pub fn play_script(
 
 fn play_in_memory(rt: &HostRuntime) -> Result<Connection<MemStore>, Failure> {
     let conn = Connection::open_in_memory(rt.alloc())?;
-    match adopt(rt.alloc(), conn, MOST_ENTRIES) {
-        Ok(both) => play_over_both(rt, both),
-        Err((fault, _)) => Err(Failure::from(fault)),
-    }
+    do_on_adopted(rt, conn, Deed::Play)
 }
 
 fn play_on_tables_in_memory(rt: &HostRuntime) -> Result<(), Failure> {
@@ -97,16 +94,6 @@ fn play_on_tables_in_memory(rt: &HostRuntime) -> Result<(), Failure> {
     match adopt_tables(rt.alloc(), conn, MOST_ENTRIES) {
         Ok(tables) => play_over_tables(rt, tables),
         Err((fault, _)) => Err(Failure::from(fault)),
-    }
-}
-
-fn play_on_file(rt: &HostRuntime, path: &str, limit: u64) -> Result<(), Failure> {
-    match open_file(rt, path, Unknown, limit.min(MOST_ENTRIES), &mut Silent) {
-        Ok(both) => {
-            play_over_both(rt, both)?;
-            Ok(())
-        }
-        Err(fault) => Err(Failure::from(fault)),
     }
 }
 
@@ -118,7 +105,7 @@ fn play_on_tables(rt: &HostRuntime, path: &str) -> Result<(), Failure> {
 }
 
 /// Prints the sums of a register, and how many entries it has, and gives it back.
-fn told<D: Register + Drop>(rt: &HostRuntime, register: D) -> Result<D, Failure>
+fn tell_of<D: Register + Drop>(rt: &HostRuntime, register: D) -> Result<D, Failure>
     requires { IsReady false (D.view register) }
 {
     let mut desk = Desk::new(register);
@@ -129,26 +116,72 @@ fn told<D: Register + Drop>(rt: &HostRuntime, register: D) -> Result<D, Failure>
     Ok(register)
 }
 
-/// The same of a register that is two, of which the connection is given back.
-fn told_of_both<S: Alter + Drop>(
+/// Does it over a register, and gives that back.
+fn do_over<D: Register + Drop>(rt: &HostRuntime, register: D, deed: Deed) -> Result<D, Failure>
+    requires { IsReady false (D.view register) }
+{
+    match deed {
+        Deed::Play => play(rt, register),
+        Deed::Tell => tell_of(rt, register),
+    }
+}
+
+/// The same over tables with a register in memory beside them, of which the tables are given back. (One type after another is
+/// told to the functions that are called: all at once the check takes twice as long.)
+fn do_over_both<M: MemoryRegister + Drop, T: ToldRegister + Drop>(
+    rt: &HostRuntime,
+    both: MirroredRegister<M, T>,
+    deed: Deed,
+) -> Result<T, Failure>
+    requires { IsReady false (shown_of_both (M.view both.memory) both.stage (T.view both.tables)) }
+{
+    let (_, tables) = do_over(rt, both, deed)?.into_parts();
+    Ok(tables)
+}
+
+/// The same, of which the connection is given back.
+fn do_over_tables<S: Alter + Drop>(
     rt: &HostRuntime,
     both: MirroredRegister<ListRegister, SqlRegister<S>>,
+    deed: Deed,
 ) -> Result<Connection<S>, Failure>
     requires { IsReady false (view_of_both S.Store both) }
 {
-    let (_, tables) = told(rt, both)?.into_parts();
-    Ok(tables.into_connection())
+    Ok(do_over_both(rt, both, deed)?.into_connection())
+}
+
+/// The same over what a connection holds, which is adopted.
+fn do_on_adopted(
+    rt: &HostRuntime,
+    conn: Connection<MemStore>,
+    deed: Deed,
+) -> Result<Connection<MemStore>, Failure> {
+    match adopt(rt.alloc(), conn, MOST_ENTRIES) {
+        Ok(both) => do_over_tables(rt, both, deed),
+        Err((fault, _)) => Err(Failure::from(fault)),
+    }
+}
+
+/// The same over the desk of a file, which is opened for so many entries. A file that is told of is closed.
+fn do_on_file(rt: &HostRuntime, path: &str, limit: u64, deed: Deed) -> Result<(), Failure> {
+    match open_file(rt, path, Unknown, limit.min(MOST_ENTRIES), &mut Silent) {
+        Ok(both) => end(do_over_tables(rt, both, deed)?, deed),
+        Err(fault) => Err(Failure::from(fault)),
+    }
+}
+
+/// Closes a file that was told of.
+fn end<D: Disk + Drop>(conn: Connection<FileStore<D>>, deed: Deed) -> Result<(), Failure> {
+    match deed {
+        Deed::Play => Ok(()),
+        Deed::Tell => Ok(conn.close()?),
+    }
 }
 
 /// Opens the desk of a file for so many entries, prints its sums and how many it has, and closes the file.
 pub fn tell(rt: &HostRuntime, path: &str, limit: u64) -> Result<bool, Failure> {
-    match open_file(rt, path, Unknown, limit.min(MOST_ENTRIES), &mut Silent) {
-        Ok(both) => {
-            told_of_both(rt, both)?.close()?;
-            Ok(true)
-        }
-        Err(fault) => Err(Failure::from(fault)),
-    }
+    do_on_file(rt, path, limit, Deed::Tell)?;
+    Ok(true)
 }
 
 /// Plays the script of standard input over tables in memory, takes their connection back and leaves a change under way in it: all
@@ -157,11 +190,6 @@ pub fn tell_adopted(rt: &HostRuntime) -> Result<bool, Failure> {
     let mut conn = play_in_memory(rt)?;
     conn.execute("BEGIN", &[])?;
     conn.execute("DELETE FROM register", &[])?;
-    match adopt(rt.alloc(), conn, MOST_ENTRIES) {
-        Ok(both) => {
-            told_of_both(rt, both)?;
-            Ok(true)
-        }
-        Err((fault, _)) => Err(Failure::from(fault)),
-    }
+    do_on_adopted(rt, conn, Deed::Tell)?;
+    Ok(true)
 }
