@@ -11,7 +11,7 @@ ghost use Rattle.sql_tables.specs.Making.{KeepsCommitted};
 ghost use Rattle.sql_tables.specs.Schema.{desk_schema};
 ghost use Rattle.sql_tables.specs.Forms.{AreAllFormed};
 ghost use Rattle.sql_tables.specs.Order.{AreInOrder};
-ghost use Rattle.sql_tables.specs.Audits.{of_register, Audits};
+ghost use Rattle.sql_tables.specs.Audits.{of_register, Audits, AuditsForCause};
 ghost use Rattle.audit_desk.specs.Reading.{HoldsFormed};
 ghost use Rattle.audit_desk.specs.Taking.{BlamesTaking};
 ghost use Rattle.audit_desk.specs.Audited.{IsAudited, IsFilled};
@@ -58,6 +58,8 @@ fn fill<S: Alter, R: Messages, P: Progress>(
     ensures holds { IfTrusted (R.Register.view register.old) (R.Register.view register.new) (IfOk result (λ audited. audited ≡ Audited.Whole → HoldsFormed (R.Register.view register.old).room (R.Register.view register.new).content)) }
     ensures not_other { IfOk result (λ audited. audited ≢ Audited.OtherTables) }
     ensures look { Audits S.Store conn.old conn.new result }
+    ensures cause { Soundly S.Store conn.old conn.new (IfTrusted (R.Register.view register.old) (R.Register.view register.new)
+        (AreInOrder desk_schema (tables S.Store conn.old).trees → AreAllFormed (tables S.Store conn.old).trees → AuditsForCause S.Store conn.old conn.new result)) }
     ensures done { OnOk result (IsDone (R.Register.view register.old) (R.Register.view register.new)) }
     ensures later { IsLater (R.Register.view register.old) (R.Register.view register.new) }
     ensures blame { R.Register.in_memory ≡ true → BlamesTaking (of_register result) (R.Register.view register.old) (R.Register.view register.new) }
@@ -90,6 +92,8 @@ pub fn audit<S: Alter, R: Messages, P: Progress>(
     ensures kept { HasCleanDisk (state S.Store conn.new) → IsTrue (state S.Store conn.old).is_open → KeepsCommitted (state S.Store conn.old) (state S.Store conn.new) }
     ensures other_tables { IfOk result (λ audited. audited ≡ Audited.OtherTables → (tables S.Store conn.old).schema ≢ desk_schema) }
     ensures look { Audits S.Store conn.old conn.new result }
+    ensures cause { HasCleanDisk (state S.Store conn.new) → IsTrue (state S.Store conn.old).is_open → IfTrusted (R.Register.view register.old) (R.Register.view register.new)
+        (AreInOrder (tables S.Store conn.old).schema (tables S.Store conn.old).trees → AuditsForCause S.Store conn.old conn.new result) }
     ensures done { OnOk result (IsDone (R.Register.view register.old) (R.Register.view register.new)) }
     ensures later { IsLater (R.Register.view register.old) (R.Register.view register.new) }
     ensures blame { R.Register.in_memory ≡ true → BlamesTaking (of_register result) (R.Register.view register.old) (R.Register.view register.new) }

@@ -4,11 +4,11 @@ ghost use Rattle.std.specs.List.{AllByRecursion};
 ghost use Rattle.desk_engine.specs.Accepting.{IsDone};
 ghost use Rattle.desk_register.specs.View.{IfTrusted, IsLater};
 ghost use Rattle.desk_engine.specs.KeptHistory.{HoldsKept};
-ghost use Rattle.sql_tables.specs.Calls.{Looks, Soundly, tables};
+ghost use Rattle.sql_tables.specs.Calls.{FailsForCause, Looks, Soundly, tables};
 ghost use Rattle.sql_tables.specs.Schema.{desk_schema, register_table};
 ghost use Rattle.sql_tables.specs.Forms.{AreAllFormed, HasForm};
 ghost use Rattle.sql_tables.specs.Order.{AreInOrder};
-ghost use Rattle.sql_tables.specs.Audits.{of_register, Audits};
+ghost use Rattle.sql_tables.specs.Audits.{of_register, Audits, AuditsForCause};
 ghost use Rattle.sql_tables.specs.ByNumber.{HasNoOther};
 ghost use Rattle.audit_desk.specs.Reading.{HoldsFormed, IsRead, TakesRow};
 ghost use Rattle.audit_desk.specs.Taking.{BlamesTaking};
@@ -61,6 +61,7 @@ fn read_entry<S: Alter, R: Register>(
     ensures look { Audits S.Store conn.old conn.new result }
     ensures done { OnOk result (IsDone (R.view register.old) (R.view register.new)) }
     ensures later { IsLater (R.view register.old) (R.view register.new) }
+    ensures cause { Soundly S.Store conn.old conn.new (AuditsForCause S.Store conn.old conn.new result) }
     ensures blame { R.in_memory ≡ true → BlamesTaking (of_register result) (R.view register.old) (R.view register.new) }
 {
     match found_at(alloc, conn, number)? {
@@ -81,6 +82,7 @@ fn read_end<S: Alter>(conn: &mut Connection<S>, count: u64) -> Result<Reading, E
     requires { count < 2 ^ 63 }
     ensures none { Soundly S.Store conn.old conn.new (IfOk result (λ reading. reading ≡ Reading.Whole → HasNoOther ((tables S.Store conn.old).trees 6) count)) }
     ensures look { Looks S.Store conn.old conn.new result }
+    ensures cause { Soundly S.Store conn.old conn.new (FailsForCause S.Store conn.old conn.new result) }
 {
     if has_no_other(conn, count)? {
         Ok(Reading::Whole)
@@ -106,6 +108,7 @@ pub fn read_register<S: Alter, R: Register, P: Progress>(
     ensures look { Audits S.Store conn.old conn.new result }
     ensures done { OnOk result (IsDone (R.view register.old) (R.view register.new)) }
     ensures later { IsLater (R.view register.old) (R.view register.new) }
+    ensures cause { Soundly S.Store conn.old conn.new (AuditsForCause S.Store conn.old conn.new result) }
     ensures blame { R.in_memory ≡ true → BlamesTaking (of_register result) (R.view register.old) (R.view register.new) }
 {
     for before in 0..MOST {

@@ -8,7 +8,7 @@ ghost use Rattle.sql_tables.specs.Calls.{Soundly, tables};
 ghost use Rattle.sql_tables.specs.Schema.{desk_schema};
 ghost use Rattle.sql_tables.specs.Forms.{AreAllFormed};
 ghost use Rattle.sql_tables.specs.Order.{AreInOrder};
-ghost use Rattle.sql_tables.specs.Audits.{Audits, Consults};
+ghost use Rattle.sql_tables.specs.Audits.{Audits, AuditsForCause, Consults};
 ghost use Rattle.audit_desk.specs.Audited.{SaysRest};
 
 use desk_register::{Messages, Stage};
@@ -45,6 +45,8 @@ pub fn first_other<S: Alter, R: Messages>(
         (HoldsKept (R.Register.view register.old).room (R.Register.view register.old).content.register (R.Register.view register.old).content → AreWellFormed (history_of (R.Register.view register.old).content)
         → SaysRest (tables S.Store conn.old) (R.Register.view register.old).content → IfOk result (λ other. other ≡ None))) }
     ensures look { Audits S.Store conn.old conn.new result }
+    ensures cause { Soundly S.Store conn.old conn.new (IfTrusted (R.Register.view register.old) (R.Register.view register.new)
+        (AreInOrder desk_schema (tables S.Store conn.old).trees → AreAllFormed (tables S.Store conn.old).trees → AuditsForCause S.Store conn.old conn.new result)) }
     ensures read { Consults result (R.Register.view register.old) (R.Register.view register.new) }
 {
     if !has_standings(alloc, conn, register)? {

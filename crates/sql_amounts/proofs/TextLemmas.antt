@@ -1,5 +1,5 @@
 -- The queries of all rows of the tables of amounts, and what they show.
-use Rattle.std.proofs.Common.{◌≡◌, ℕ, List, [], ◌∷◌, map, codes, refl, subst, ◌∙◌, Ok, Err, Result, IfOk, Vec}
+use Rattle.std.proofs.Common.{◌≡◌, ℕ, List, [], ◌∷◌, map, codes, true, refl, subst, ◌∙◌, Ok, Err, Result, IfOk, IfErr, IsTrue, Vec}
 use Rattle.std.specs.declared.alloc.Global.{Global}
 use Rattle.std.specs.List.Sorted.{IsPermutation}
 use Rattle.sqlite.specs.declared.error.Error.{Error}
@@ -9,13 +9,16 @@ use Rattle.sqlite.specs.Term.{Term, col}
 use Rattle.sqlite.specs.Command.TheVariants.{Select}
 use Rattle.sqlite.specs.Listing.{understood}
 use Rattle.sqlite.specs.Program.{overlay}
-use Rattle.sqlite.specs.State.{State, Shown}
+use Rattle.sqlite.specs.State.{State, FailsToQuery, Shown}
+use Rattle.sqlite_typing.specs.Types.{accepts_program}
 use Rattle.sqlite.proofs.Callers.{command_of, reads_as}
 use Rattle.sqlite.specs.Tree.{Trees}
 use Rattle.sqlite_tied.specs.Compute.{everything}
 use Rattle.sql_tables.specs.Schema.{desk_schema}
 use Rattle.sql_tables.specs.Statements.{IsQuery}
+use Rattle.sql_tables.specs.Ends.{ForCause}
 use Rattle.sql_tables.specs.Queries.{plain}
+use Rattle.sql_tables.proofs.BlameLemmas.{IsWhole, query_caused}
 use Rattle.sql_tables.proofs.QueryLemmas.{all_kept, plain_rows}
 use Rattle.sql_amounts.specs.declared.key.Ledger.{Ledger}
 use Rattle.sql_amounts.specs.declared.key.Ledger.TheVariants.{Balance, Cash, Total}
@@ -46,6 +49,20 @@ overlaid : (trees : Trees) (ledger : Ledger) → overlay trees [] (tree_of ledge
 overlaid trees Balance = refl
 overlaid trees Cash = refl
 overlaid trees Total = refl
+
+all_whole : (ledger : Ledger) → IsWhole (all_text ledger) 0
+unfolding understood everything
+all_whole Balance = record { plain = (refl, refl); whole = refl; width_is = refl }
+all_whole Cash = record { plain = (refl, refl); whole = refl; width_is = refl }
+all_whole Total = record { plain = (refl, refl); whole = refl; width_is = refl }
+
+all_typed : (ledger : Ledger) → accepts_program desk_schema [] (plain (tree_of ledger) [] columns) [] ≡ true
+all_typed Balance = refl
+all_typed Cash = refl
+all_typed Total = refl
+
+pub all_caused : (ledger : Ledger) (old new : State) → old.now.schema ≡ desk_schema → IsTrue old.is_open → (r : Result (Vec Row Global) Error) → IfErr r (FailsToQuery (all_text ledger) [] old new) → IfErr r (ForCause old new)
+all_caused ledger old new has open' r h = query_caused old new has open' (all_text ledger) [] (all_whole ledger) _ _ (all_is ledger) (reads_all ledger).unlisted (all_typed ledger) refl refl r h
 
 pub all_shown : (ledger : Ledger) (old new : State) → old.now.schema ≡ desk_schema → (r : Result (Vec Row Global) Error) → IfOk r (λ rows. Shown (all_text ledger) [] old new rows.items)
     → IfOk r (λ rows. IsPermutation (map shown (old.now.trees (tree_of ledger))) rows.items)

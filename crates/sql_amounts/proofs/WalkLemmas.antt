@@ -1,5 +1,5 @@
 -- One step after another: what was found of the tables and of the register at a later step is so of the first.
-use Rattle.std.proofs.Common.{◌≡◌, ◌⊎◌, inl, inr, ℕ, suc, ◌+◌, ◌<◌, ◌≤◌, List, [], ◌∷◌, get_or, length, All, Bool, Option, Some, None, is_some, true, false, not, IfSome, IfOk, IsTrue, Result, Ok, Err, refl, sym, ap, subst, ◌∙◌, arith}
+use Rattle.std.proofs.Common.{◌≡◌, ◌⊎◌, inl, inr, ℕ, suc, ◌+◌, ◌<◌, ◌≤◌, List, [], ◌∷◌, get_or, length, All, Bool, Option, Some, None, is_some, true, false, not, IfSome, IfOk, IfErr, IsTrue, Result, Ok, Err, refl, sym, ap, subst, ◌∙◌, arith}
 use Rattle.std.specs.List.{AllByRecursion}
 use Rattle.std.specs.Prelude.{slice_get}
 use Rattle.std.specs.Result.{IsErrAnd}
@@ -27,12 +27,14 @@ use Rattle.desk_register.specs.View.{HasRead, IfTrusted, IsLater, IsRead, View}
 use Rattle.desk_register.proofs.CaseLemmas.{same_bytes}
 use Rattle.desk_holdings.specs.Holdings.{HoldsRegistered}
 use Rattle.desk_holdings.proofs.AboveLemmas.{fewer, left_above, listed_is_left}
-use Rattle.sql_tables.specs.Ends.{HasLooked, IfSound, IsLook, IsSame}
+use Rattle.sql_tables.specs.Ends.{ForCause, HasLooked, IfSound, IsLook, IsSame}
 use Rattle.sql_tables.specs.Ends.{IsLater as IsLaterState}
 use Rattle.sql_tables.specs.Schema.{desk_schema}
 use Rattle.sql_amounts.specs.declared.key.Ledger.TheVariants as ledgers
 use Rattle.sql_amounts.specs.declared.key.AmountKey.TheVariants.{Balance, Cash, Currency}
 use Rattle.sql_tables.specs.declared.fault.AuditFault.{AuditFault}
+use Rattle.sql_tables.specs.declared.fault.AuditFault.TheVariants.{Register, Tables}
+use Rattle.sql_tables.proofs.EndLemmas.{cause_onward}
 use Rattle.sql_tables.specs.Audits.{of_register, of_tables}
 use Rattle.sql_tables.proofs.LookLemmas.{look_more, look_then}
 use Rattle.desk_register.proofs.ReadLemmas.{read_more, read_then}
@@ -89,6 +91,23 @@ look_failed fault (Err e) is s0 s1 s2 looked failed = look_then tt (of_tables {X
 pub read_failed : (fault : AuditFault) (r : Result Bool AuditFault) → IsErrAnd r (λ e. e ≡ fault) → (v0 v1 v2 : View) → HasRead v0 v1 → IsRead (of_register {X = Bool} (Err fault)) v1 v2 → IsRead (of_register r) v0 v2
 read_failed fault (Ok x) is v0 v1 v2 read failed = absurd is
 read_failed fault (Err e) is v0 v1 v2 read failed = read_then v0 v1 v2 read (of_register {X = Bool} (Err e)) (subst (λ f. IsRead (of_register {X = Bool} (Err f)) v1 v2) (sym is) failed)
+
+-- why it gave none
+pub cause_on : {X : Type 0} (r : Result X AuditFault) (a b c : State) → IsLaterState a b → IsLaterState b c → IfErr (of_tables r) (ForCause b c) → IfErr (of_tables r) (ForCause a c)
+cause_on (Ok so) a b c p q caused = tt
+cause_on (Err (Register fault)) a b c p q caused = tt
+cause_on (Err (Tables e)) a b c p q caused = cause_onward a b c e p q caused
+
+pub cause_failed : (Y : Type 0) {X : Type 0} (fault : AuditFault) (r : Result X AuditFault) → IsErrAnd r (λ e. e ≡ fault) → (a b c : State) → IsLaterState a b → IsLaterState b c → IfErr (of_tables {X = Y} (Err fault)) (ForCause b c) → IfErr (of_tables r) (ForCause a c)
+cause_failed Y fault (Ok so) is a b c p q caused = absurd is
+cause_failed Y {X} fault (Err e) is a b c p q caused = cause_on {X = X} (Err e) a b c p q (again fault (sym is) caused)
+  where
+    again : (f : AuditFault) → f ≡ e → IfErr (of_tables {X = Y} (Err f)) (ForCause b c) → IfErr (of_tables {X = X} (Err e)) (ForCause b c)
+    again f same caused = each e (subst (λ f. IfErr (of_tables {X = Y} (Err f)) (ForCause b c)) same caused)
+      where
+        each : (f : AuditFault) → IfErr (of_tables {X = Y} (Err f)) (ForCause b c) → IfErr (of_tables {X = X} (Err f)) (ForCause b c)
+        each (Register fault) caused = tt
+        each (Tables e) caused = caused
 
 -- ---- what an account holds, security by security
 

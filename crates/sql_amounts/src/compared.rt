@@ -11,7 +11,7 @@ ghost use Rattle.sql_tables.specs.Calls.{Soundly, tables};
 ghost use Rattle.sql_tables.specs.Schema.{desk_schema};
 ghost use Rattle.sql_tables.specs.Forms.{AreAllFormed};
 ghost use Rattle.sql_tables.specs.Order.{AreInOrder};
-ghost use Rattle.sql_tables.specs.Audits.{Audits, Consults};
+ghost use Rattle.sql_tables.specs.Audits.{Audits, AuditsForCause, Consults};
 ghost use Rattle.sql_amounts.specs.Said.{HasAmounts, HasNoStranger, HasReadable};
 
 use crate::compared::recorded::{are_entries_recorded, is_paid_recorded};
@@ -35,6 +35,8 @@ pub fn has_amounts<S: Alter, R: Register>(
     ensures exact { Soundly S.Store conn.old conn.new (IfTrusted (R.view register.old) (R.view register.new)
         (HasReadable (R.view register.old).content → HasAmounts (tables S.Store conn.old) (R.view register.old).content → IfOk result (λ so. IsTrue so))) }
     ensures look { Audits S.Store conn.old conn.new result }
+    ensures blame { Soundly S.Store conn.old conn.new (IfTrusted (R.view register.old) (R.view register.new)
+        (AreInOrder desk_schema (tables S.Store conn.old).trees → AreAllFormed (tables S.Store conn.old).trees → AuditsForCause S.Store conn.old conn.new result)) }
     ensures read { Consults result (R.view register.old) (R.view register.new) }
 {
     if !are_true_tables(alloc, conn, register)? {

@@ -1,13 +1,17 @@
 -- What the texts show of the rows of `register`.
-use Rattle.std.proofs.Common.{◌≡◌, ◌<◌, ℕ, List, [], ◌∷◌, length, map, filter, get_or, nat_lt, true, codes, refl, sym, ap, subst, ◌∙◌, arith, Ok, Err, Result, IfOk}
+use Rattle.std.proofs.Common.{◌≡◌, ◌<◌, ℕ, List, [], ◌∷◌, length, map, filter, get_or, nat_lt, true, codes, refl, sym, ap, subst, ◌∙◌, arith, ℤ, Ok, Err, Result, IfErr, IfOk, IsTrue, Vec}
+use Rattle.std.specs.declared.alloc.Global.{Global}
 use Rattle.std.specs.List.{list_all, AllByRecursion}
 use Rattle.std.specs.List.Sorted.{IsPermutation}
 use Rattle.std.proofs.lemmas.Bool.{and_parts, ltb-true}
 use Rattle.std.proofs.lemmas.List.{get_or-map, length-map}
 use Rattle.std.proofs.lemmas.List.Sorted.{IsPermutation-refl, IsPermutation-sym}
 use Rattle.sqlite.specs.declared.error.Error.{Error}
+use Rattle.sqlite.specs.declared.error.Error.TheVariants.{SqliteFailure}
+use Rattle.sqlite.specs.declared.error.ErrorCode.TheVariants.{OutOfMemory}
+use Rattle.sqlite_trees.proofs.ListLemmas.{all-map, all-permutation}
 use Rattle.sqlite.specs.declared.types.Value.{Value}
-use Rattle.sqlite.specs.declared.types.Value.TheVariants.{Null}
+use Rattle.sqlite.specs.declared.types.Value.TheVariants.{Int, Null}
 use Rattle.sqlite.specs.Order.{Row}
 use Rattle.sqlite.specs.Term.{Term, col}
 use Rattle.sqlite.specs.Values.{bound, bound_value}
@@ -15,12 +19,15 @@ use Rattle.sqlite_value.specs.declared.value.ValueRef.{ValueRef}
 use Rattle.sqlite_value.specs.declared.value.ValueRef.TheVariants.{Null as unset}
 use Rattle.sqlite_value.specs.Value.{owned}
 use Rattle.sqlite.specs.Listing.{understood}
+use Rattle.sqlite.specs.State.{State, FailsToQuery}
 use Rattle.sqlite.proofs.Callers.{one_permutation}
 use Rattle.sqlite_tied.specs.Compute.{everything}
 use Rattle.desk_rules.specs.declared.answers.reply.Kept.{Kept}
-use Rattle.sql_tables.specs.Schema.{register_table}
+use Rattle.sql_tables.specs.Schema.{desk_schema, register_table}
+use Rattle.sql_tables.specs.Ends.{ForCause}
+use Rattle.sql_tables.proofs.BlameLemmas.{IsWhole}
 use Rattle.sql_tables.specs.Queries.{equals}
-use Rattle.sql_tables.proofs.ShownLemmas.{IsPlainQuery}
+use Rattle.sql_tables.proofs.ShownLemmas.{IsPlainQuery, plain_caused}
 use Rattle.sql_tables.specs.Forms.{HasForm}
 use Rattle.sql_entries.specs.Entries.{given, values_of}
 use Rattle.sql_tables.specs.ByNumber.{above, below, has_number, HasOne}
@@ -31,6 +38,7 @@ use Rattle.sql_entries.specs.declared.compared.Found.{Found}
 use Rattle.sql_entries.specs.declared.compared.Found.TheVariants.{Nothing, Another, Entry}
 use Rattle.sql_entries.specs.Found.{IsFound, IsShownAs}
 use Rattle.sql_entries.specs.Rows.{shown, shown_kept}
+use Rattle.sql_entries.proofs.CauseLemmas.{memory_caused}
 
 -- ---- the texts
 
@@ -63,6 +71,28 @@ reads_above = record { names = codes "number" ∷ []; is = refl; query = record 
 pub reads_below : IsPlainQuery below_text 6 (below ∷ []) (col 1 0 ∷ [])
 unfolding understood everything
 reads_below = record { names = codes "number" ∷ []; is = refl; query = record { selects = refl; plain = (refl, refl); unlisted = refl } }
+
+at_whole : IsWhole at_text 1
+unfolding understood everything
+at_whole = record { plain = (refl, refl); whole = refl; width_is = refl }
+
+above_whole : IsWhole above_text 1
+unfolding understood everything
+above_whole = record { plain = (refl, refl); whole = refl; width_is = refl }
+
+below_whole : IsWhole below_text 1
+unfolding understood everything
+below_whole = record { plain = (refl, refl); whole = refl; width_is = refl }
+
+module _ (old new : State) (has : old.now.schema ≡ desk_schema) (open' : IsTrue old.is_open) (number : ℤ) (r : Result (Vec Row Global) Error) where
+  pub at_caused : IfErr r (FailsToQuery at_text (Int number ∷ []) old new) → IfErr r (ForCause old new)
+  at_caused h = plain_caused reads_at (Int number ∷ []) old new has open' at_whole refl r h
+
+  pub above_caused : IfErr r (FailsToQuery above_text (Int number ∷ []) old new) → IfErr r (ForCause old new)
+  above_caused h = plain_caused reads_above (Int number ∷ []) old new has open' above_whole refl r h
+
+  pub below_caused : IfErr r (FailsToQuery below_text (Int number ∷ []) old new) → IfErr r (ForCause old new)
+  below_caused h = plain_caused reads_below (Int number ∷ []) old new has open' below_whole refl r h
 
 -- ---- the row of a number
 
@@ -97,6 +127,18 @@ found rows items shown_rows number (Ok Nothing) formed same is h = tt
 found rows items shown_rows number (Ok Another) formed same is h = tt
 found rows items shown_rows number (Ok (Entry kept)) formed same is h = record { row = one_row rows items number kept formed same (sym is ∙ h.is); formed = h.formed }
 found rows items shown_rows number (Err e) formed same is h = tt
+
+-- rows that are shown are as wide as the text names columns, and so a row is not read for want of memory alone
+as_wide : (rows : List Row) → AllByRecursion (λ row. length (shown row) ≡ 21) rows
+as_wide [] = tt
+as_wide (row ∷ rows) = (refl, as_wide rows)
+
+pub found_caused : (old new : State) (rows items shown_rows : List Row) (r : Result Found Error) → IsPermutation (map shown rows) items → shown_rows ≡ items
+    → (AllByRecursion (λ row. length row ≡ 21) shown_rows → IfErr r (λ e. e ≡ SqliteFailure OutOfMemory)) → IfErr r (ForCause old new)
+found_caused old new rows items shown_rows r same is fails =
+    let Wide : Row → Type 0 = λ row. length row ≡ 21 in
+    let wide : AllByRecursion Wide items = all-permutation Wide (map shown rows) items same (all-map Wide shown rows (as_wide rows)) in
+    memory_caused old new r (fails (subst (AllByRecursion Wide) (sym is) wide))
 
 -- ---- values in another order
 

@@ -6,3 +6,4 @@ pub mod Reading
 pub mod Opposites
 pub mod Found
 pub mod Rows
+pub mod Unread

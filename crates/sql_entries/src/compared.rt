@@ -1,9 +1,10 @@
 //! The rows of `register` by their numbers.
-ghost use Rattle.std.specs.Prelude.{◌≡◌, ◌<◌, ◌^◌, ◌∷◌, [], map, filter, IsTrue, IfOk};
+ghost use Rattle.std.specs.Prelude.{◌≡◌, ◌<◌, ◌^◌, ◌∷◌, [], length, map, filter, IsTrue, IfErr, IfOk};
 ghost use Rattle.std.specs.List.{AllByRecursion};
 ghost use Rattle.std.specs.List.Sorted.{IsPermutation};
 ghost use Rattle.sqlite.specs.Values.{bound};
-ghost use Rattle.sql_tables.specs.Calls.{Looks, Soundly, tables};
+ghost use Rattle.sqlite.specs.declared.error.ErrorCode.TheVariants.{OutOfMemory};
+ghost use Rattle.sql_tables.specs.Calls.{FailsForCause, Looks, Soundly, tables};
 ghost use Rattle.sql_tables.specs.Schema.{register_table};
 ghost use Rattle.sql_tables.specs.Forms.{HasForm};
 ghost use Rattle.sql_tables.specs.ByNumber.{has_number, is_above, is_below, HasNoOther};
@@ -29,6 +30,7 @@ fn rows_at<S: Alter>(conn: &mut Connection<S>, number: u64) -> Result<Vec<Row>, 
     requires { number < 2 ^ 63 }
     ensures shown { Soundly S.Store conn.old conn.new (IfOk result (λ rows. IsPermutation (map shown (filter (has_number number) ((tables S.Store conn.old).trees 6))) rows.items)) }
     ensures look { Looks S.Store conn.old conn.new result }
+    ensures blame { Soundly S.Store conn.old conn.new (FailsForCause S.Store conn.old conn.new result) }
 {
     query(
         conn,
@@ -42,6 +44,7 @@ fn rows_above<S: Alter>(conn: &mut Connection<S>, number: u64) -> Result<Vec<Row
     requires { number < 2 ^ 63 }
     ensures shown { Soundly S.Store conn.old conn.new (IfOk result (λ rows. rows.items ≡ [] → filter (is_above number) ((tables S.Store conn.old).trees 6) ≡ [])) }
     ensures look { Looks S.Store conn.old conn.new result }
+    ensures blame { Soundly S.Store conn.old conn.new (FailsForCause S.Store conn.old conn.new result) }
 {
     query(
         conn,
@@ -55,6 +58,7 @@ fn rows_below<S: Alter>(conn: &mut Connection<S>, number: u64) -> Result<Vec<Row
     requires { number < 2 ^ 63 }
     ensures shown { Soundly S.Store conn.old conn.new (IfOk result (λ rows. rows.items ≡ [] → filter (is_below number) ((tables S.Store conn.old).trees 6) ≡ [])) }
     ensures look { Looks S.Store conn.old conn.new result }
+    ensures blame { Soundly S.Store conn.old conn.new (FailsForCause S.Store conn.old conn.new result) }
 {
     query(
         conn,
@@ -109,7 +113,9 @@ fn is_row_of(rows: &[Row], number: u64, kept: &Kept) -> bool
 }
 
 /// The entry that a shown row says; None where it says none of the desk's.
-fn entry_said(alloc: Global, row: &Row) -> Result<Option<Entry>, Error> {
+fn entry_said(alloc: Global, row: &Row) -> Result<Option<Entry>, Error>
+    ensures fails { 15 < length row.now → IfErr result (λ e. e ≡ Error.SqliteFailure OutOfMemory) }
+{
     match entry_in(alloc, row) {
         Ok(entry) => Ok(Some(entry)),
         Err(Error::SqliteFailure(ErrorCode::DatabaseCorrupt)) => Ok(None),
@@ -118,7 +124,9 @@ fn entry_said(alloc: Global, row: &Row) -> Result<Option<Entry>, Error> {
 }
 
 /// The reply that it says; None where it says none.
-fn reply_said(alloc: Global, row: &Row) -> Result<Option<Reply>, Error> {
+fn reply_said(alloc: Global, row: &Row) -> Result<Option<Reply>, Error>
+    ensures fails { 18 < length row.now → IfErr result (λ e. e ≡ Error.SqliteFailure OutOfMemory) }
+{
     match reply_in(alloc, row, REPLY) {
         Ok(reply) => Ok(Some(reply)),
         Err(Error::SqliteFailure(ErrorCode::DatabaseCorrupt)) => Ok(None),
@@ -128,7 +136,9 @@ fn reply_said(alloc: Global, row: &Row) -> Result<Option<Reply>, Error> {
 
 /// The entry with its reply that a shown row says. Nothing has to be known of them: the whole row is compared with what they
 /// would write.
-fn kept_said(alloc: Global, row: &Row) -> Result<Option<Kept>, Error> {
+fn kept_said(alloc: Global, row: &Row) -> Result<Option<Kept>, Error>
+    ensures fails { 18 < length row.now → IfErr result (λ e. e ≡ Error.SqliteFailure OutOfMemory) }
+{
     let Some(entry) = entry_said(alloc, row)? else {
         return Ok(None);
     };
@@ -153,6 +163,7 @@ fn found_in(alloc: Global, rows: &[Row], number: u64) -> Result<Found, Error>
     requires { number < 2 ^ 63 }
     ensures shown { IfOk result (λ found. IsShownAs rows.now number found) }
     ensures formed { IfOk result IsFormed }
+    ensures fails { AllByRecursion (λ row. length row ≡ 21) rows.now → IfErr result (λ e. e ≡ Error.SqliteFailure OutOfMemory) }
 {
     let Some(row) = rows.first() else {
         return Ok(Found::Nothing);
@@ -177,6 +188,7 @@ pub fn found_at<S: Alter>(
     ensures found { Soundly S.Store conn.old conn.new (AllByRecursion (HasForm register_table) ((tables S.Store conn.old).trees 6) → IfOk result (λ found. IsFound ((tables S.Store conn.old).trees 6) number found)) }
     ensures formed { IfOk result IsFormed }
     ensures look { Looks S.Store conn.old conn.new result }
+    ensures blame { Soundly S.Store conn.old conn.new (FailsForCause S.Store conn.old conn.new result) }
 {
     let rows = rows_at(conn, number)?;
     found_in(alloc, &rows, number)
@@ -187,6 +199,7 @@ pub fn has_no_other<S: Alter>(conn: &mut Connection<S>, count: u64) -> Result<bo
     requires { count < 2 ^ 63 }
     ensures none { Soundly S.Store conn.old conn.new (IfOk result (λ ok. IsTrue ok → HasNoOther ((tables S.Store conn.old).trees 6) count)) }
     ensures look { Looks S.Store conn.old conn.new result }
+    ensures blame { Soundly S.Store conn.old conn.new (FailsForCause S.Store conn.old conn.new result) }
 {
     if !rows_above(conn, count)?.is_empty() {
         return Ok(false);

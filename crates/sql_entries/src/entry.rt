@@ -13,6 +13,8 @@ ghost use Rattle.desk_rules.specs.declared.history.entry.Movement.{Movement as M
 ghost use Rattle.desk_rules.specs.declared.history.entry.Payment.{Payment as Paid};
 ghost use Rattle.desk_rules.specs.declared.history.entry.RunRule.{RunRule as Rule};
 ghost use Rattle.sql_entries.specs.Columns.{kind_number, number_of_rule};
+ghost use Rattle.sql_tables.specs.Ends.{IsCorrupt};
+ghost use Rattle.sql_entries.specs.Unread.{IsUnread};
 ghost use Rattle.sql_entries.specs.Reading.{Says, SaysMovement, SaysOf, SaysPayment};
 ghost use Rattle.desk_rules.specs.Spelt.{IsMovementSpelt, IsPaymentSpelt, IsSpelt};
 
@@ -35,6 +37,7 @@ use std::alloc::Global;
 fn movement_in(row: &Row) -> Result<Movement, Error>
     ensures says { IfOk result (λ movement. SaysMovement row.now movement) }
     ensures all { (m : Moved) → 15 < length row.now → SaysMovement row.now m → IsMovementSpelt m → IsOk result }
+    ensures fails { 15 < length row.now → IfErr result IsCorrupt }
 {
     let quantity = number_at(row, QUANTITY)?;
     if quantity == 0 || quantity > MOST_QUANTITY {
@@ -52,6 +55,7 @@ fn movement_in(row: &Row) -> Result<Movement, Error>
 fn payment_in(row: &Row) -> Result<Payment, Error>
     ensures says { IfOk result (λ payment. SaysPayment row.now payment) }
     ensures all { (p : Paid) → 15 < length row.now → SaysPayment row.now p → IsPaymentSpelt p → IsOk result }
+    ensures fails { 15 < length row.now → IfErr result IsCorrupt }
 {
     let amount = number_at(row, AMOUNT)?;
     if amount == 0 || amount > MOST_PAID {
@@ -68,6 +72,7 @@ fn payment_in(row: &Row) -> Result<Payment, Error>
 fn participant_in(row: &Row) -> Result<Entry, Error>
     ensures says { IfOk result (λ entry. SaysOf 1 row.now entry) }
     ensures all { (reference bic : List ℕ) → 15 < length row.now → Says row.now (Participant reference bic) → IsSpelt (Participant reference bic) → IsOk result }
+    ensures fails { 15 < length row.now → IfErr result IsCorrupt }
 {
     Ok(Entry::Participant {
         reference: reference_at(row, REFERENCE)?,
@@ -78,6 +83,7 @@ fn participant_in(row: &Row) -> Result<Entry, Error>
 fn account_in(row: &Row) -> Result<Entry, Error>
     ensures says { IfOk result (λ entry. SaysOf 2 row.now entry) }
     ensures all { (reference bic account : List ℕ) → 15 < length row.now → Says row.now (Account reference bic account) → IsSpelt (Account reference bic account) → IsOk result }
+    ensures fails { 15 < length row.now → IfErr result IsCorrupt }
 {
     Ok(Entry::Account {
         reference: reference_at(row, REFERENCE)?,
@@ -89,6 +95,7 @@ fn account_in(row: &Row) -> Result<Entry, Error>
 fn security_in(row: &Row) -> Result<Entry, Error>
     ensures says { IfOk result (λ entry. SaysOf 3 row.now entry) }
     ensures all { (reference isin : List ℕ) (kind : QuantityType) → 15 < length row.now → Says row.now (Security reference isin kind) → IsSpelt (Security reference isin kind) → IsOk result }
+    ensures fails { 15 < length row.now → IfErr result IsCorrupt }
 {
     Ok(Entry::Security {
         reference: reference_at(row, REFERENCE)?,
@@ -100,6 +107,7 @@ fn security_in(row: &Row) -> Result<Entry, Error>
 fn cancellation_in(row: &Row) -> Result<Entry, Error>
     ensures says { IfOk result (λ entry. SaysOf 9 row.now entry) }
     ensures all { (sender : List ℕ) (order : Order) → 15 < length row.now → Says row.now (Cancel sender order) → IsSpelt (Cancel sender order) → IsOk result }
+    ensures fails { 15 < length row.now → IfErr result IsCorrupt }
 {
     Ok(Entry::Cancel {
         sender: bic_at(row, SENDER)?,
@@ -114,6 +122,7 @@ fn cancellation_in(row: &Row) -> Result<Entry, Error>
 fn rule_in(row: &Row) -> Result<RunRule, Error>
     ensures value { IfOk result (λ rule. column row.now RULE ≡ Int (pos (number_of_rule rule))) }
     ensures all { (rule : Rule) → RULE < length row.now → column row.now RULE ≡ Int (pos (number_of_rule rule)) → IsOk result }
+    ensures fails { RULE < length row.now → IfErr result IsCorrupt }
 {
     match number_at(row, RULE)? {
         1 => Ok(RunRule::OnePass),
@@ -125,6 +134,7 @@ fn rule_in(row: &Row) -> Result<RunRule, Error>
 fn run_in(row: &Row) -> Result<Entry, Error>
     ensures says { IfOk result (λ entry. SaysOf 10 row.now entry) }
     ensures all { (reference day : List ℕ) (rule : Rule) → 15 < length row.now → Says row.now (Run reference day rule) → IsSpelt (Run reference day rule) → IsOk result }
+    ensures fails { 15 < length row.now → IfErr result IsCorrupt }
 {
     Ok(Entry::Run {
         reference: reference_at(row, REFERENCE)?,
@@ -137,6 +147,7 @@ fn run_in(row: &Row) -> Result<Entry, Error>
 fn command_in(row: &Row, kind: u64) -> Result<Entry, Error>
     ensures says { IfOk result (λ entry. SaysOf kind row.now entry) }
     ensures all { (entry : AnyEntry) → kind ≢ 8 → kind ≢ 9 → 15 < length row.now → SaysOf kind row.now entry → IsSpelt entry → IsOk result }
+    ensures fails { 15 < length row.now → IfErr result IsCorrupt }
 {
     match kind {
         kind::PARTICIPANT => participant_in(row),
@@ -156,6 +167,7 @@ pub fn entry_in(alloc: Global, row: &Row) -> Result<Entry, Error>
     ensures kind { IfOk result (λ entry. column row.now KIND ≡ Int (pos (kind_number entry))) }
     ensures says { IfOk result (λ entry. Says row.now entry) }
     ensures all { (entry : AnyEntry) → 15 < length row.now → column row.now KIND ≡ Int (pos (kind_number entry)) → Says row.now entry → IsSpelt entry → IfErr result (λ e. e ≡ Error.SqliteFailure OutOfMemory) }
+    ensures fails { 15 < length row.now → IfErr result IsUnread }
 {
     match number_at(row, KIND)? {
         kind::INSTRUCTION => Ok(Entry::Instruct {

@@ -8,6 +8,8 @@ ghost use Rattle.desk_msg.specs.MessageType.{is_instruction, number_of_type};
 ghost use Rattle.desk_msg.specs.declared.instruction.Cash.{Cash as Amount};
 ghost use Rattle.desk_msg.specs.declared.instruction.Instruction.{Instruction as Said};
 ghost use Rattle.desk_msg.specs.declared.mt.Mt.{Mt as MessageType};
+ghost use Rattle.sql_tables.specs.Ends.{IsCorrupt};
+ghost use Rattle.sql_entries.specs.Unread.{IsUnread};
 ghost use Rattle.sql_entries.specs.Reading.{SaysCash, SaysInstruction};
 ghost use Rattle.desk_rules.specs.Spelt.{IsInstructionSpelt};
 
@@ -44,6 +46,7 @@ pub(crate) fn type_in(row: &Row) -> Result<Mt, Error>
     ensures says { IfOk result (λ mt. column row.now MT ≡ Int (pos (number_of_type mt))) }
     ensures instructs { IfOk result (λ mt. is_instruction mt ≡ true) }
     ensures all { (mt : MessageType) → 15 < length row.now → column row.now MT ≡ Int (pos (number_of_type mt)) → is_instruction mt ≡ true → IsOk result }
+    ensures fails { 15 < length row.now → IfErr result IsCorrupt }
 {
     let mt = mt_at(row, MT)?;
     if !mt.is_instruction() {
@@ -56,6 +59,7 @@ pub(crate) fn type_in(row: &Row) -> Result<Mt, Error>
 fn cash_in(alloc: Global, row: &Row) -> Result<Option<Cash>, Error>
     ensures says { IfOk result (λ cash. SaysCash row.now cash) }
     ensures all { (cash : Option Amount) → 15 < length row.now → SaysCash row.now cash → IfErr result (λ e. e ≡ Error.SqliteFailure OutOfMemory) }
+    ensures fails { 15 < length row.now → IfErr result IsUnread }
 {
     if text_at(row, CURRENCY)?.is_empty() {
         return Ok(None);
@@ -74,6 +78,7 @@ fn quantity_in(alloc: Global, row: &Row) -> Result<u64, Error>
     ensures some { IfOk result (λ quantity. 0 < quantity) }
     ensures short { IfOk result (λ quantity. length (written_number quantity 0) ≤ 15) }
     ensures all { (q : ℕ) → 15 < length row.now → column row.now QUANTITY ≡ Int (pos q) → 0 < q → length (written_number q 0) ≤ 15 → IfErr result (λ e. e ≡ Error.SqliteFailure OutOfMemory) }
+    ensures fails { 15 < length row.now → IfErr result IsUnread }
 {
     let quantity = number_at(row, QUANTITY)?;
     if quantity == 0 || !is_short(alloc, quantity, 0)? {
@@ -86,6 +91,7 @@ fn quantity_in(alloc: Global, row: &Row) -> Result<u64, Error>
 pub(crate) fn instruction_in(alloc: Global, row: &Row) -> Result<Instruction, Error>
     ensures says { IfOk result (λ instruction. SaysInstruction row.now instruction) }
     ensures all { (i : Said) → 15 < length row.now → SaysInstruction row.now i → IsInstructionSpelt i → IfErr result (λ e. e ≡ Error.SqliteFailure OutOfMemory) }
+    ensures fails { 15 < length row.now → IfErr result IsUnread }
 {
     let mt = type_in(row)?;
     let cash = cash_in(alloc, row)?;

@@ -8,6 +8,8 @@ ghost use Rattle.desk_rules.specs.WellFormed.{AreWellFormed};
 ghost use Rattle.desk_register.specs.Looked.{kept_at};
 ghost use Rattle.desk_rules.specs.declared.answers.reply.Reply.{Reply};
 ghost use Rattle.sqlite_value.specs.Order.{column};
+ghost use Rattle.sql_tables.specs.Ends.{IsCorrupt};
+ghost use Rattle.sql_entries.specs.Unread.{IsUnread};
 ghost use Rattle.sql_entries.specs.Reading.{SaysReply};
 ghost use Rattle.sql_entries.specs.Entries.{AreEntries, entries_in, type_value};
 ghost use Rattle.sql_entries.specs.Shown.{HasShortNumbers, HaveShortNumbers, count_rows, row_if, shown_entry, shown_reply};
@@ -88,6 +90,7 @@ fn first_entry(alloc: Global, rows: &[Row]) -> Result<Option<Entry>, Error>
 fn message_type_in(row: &Row, at: usize) -> Result<Option<u16>, Error>
     ensures value { (mt : Option ℕ) → column row.now at ≡ type_value mt → IfOk result (λ r. r ≡ mt) }
     ensures all { (mt : Option ℕ) → at < length row.now → column row.now at ≡ type_value mt → IfSome mt (λ n. n < 2 ^ 16) → IsOk result }
+    ensures fails { at < length row.now → IfErr result IsCorrupt }
 {
     match row.get_ref(at)? {
         ValueRef::Null => Ok(None),
@@ -100,6 +103,7 @@ pub fn reply_in(alloc: Global, row: &Row, at: usize) -> Result<Reply, Error>
     requires { at < 2 ^ 16 }
     ensures value { (reply : Reply) → SaysReply row.now at reply → IfOk result (λ r. r ≡ reply) }
     ensures all { (reply : Reply) → at + 2 < length row.now → SaysReply row.now at reply → reply.status < 2 ^ 16 → IfSome reply.mt (λ n. n < 2 ^ 16) → IfErr result (λ e. e ≡ Error.SqliteFailure OutOfMemory) }
+    ensures fails { at + 2 < length row.now → IfErr result IsUnread }
 {
     let status = short_at(row, at)?;
     let mt = message_type_in(row, at + 1)?;

@@ -1,15 +1,20 @@
 -- What the texts show of the rows of `sent`.
-use Rattle.std.proofs.Common.{◌≡◌, ◌↔◌, ℕ, pos, List, [], ◌∷◌, map, filter, Bool, IsTrue, codes, refl, sym, ◌∙◌}
+use Rattle.std.proofs.Common.{◌≡◌, ◌↔◌, ℕ, ℤ, pos, List, [], ◌∷◌, map, filter, Bool, IsTrue, IfErr, Result, Vec, codes, refl, sym, ◌∙◌}
+use Rattle.std.specs.declared.alloc.Global.{Global}
 use Rattle.std.specs.List.{AllByRecursion}
 use Rattle.std.specs.List.Sorted.{IsPermutation}
 use Rattle.sqlite.specs.declared.types.Value.TheVariants.{Int}
 use Rattle.sqlite.specs.Order.{Row}
 use Rattle.sqlite.specs.Term.{Term, col}
+use Rattle.sqlite.specs.declared.error.Error.{Error}
 use Rattle.sqlite.specs.Listing.{understood}
+use Rattle.sqlite.specs.State.{State, FailsToQuery}
 use Rattle.sqlite_tied.specs.Compute.{everything}
-use Rattle.sql_tables.specs.Schema.{sent_table}
+use Rattle.sql_tables.specs.Schema.{desk_schema, sent_table}
+use Rattle.sql_tables.specs.Ends.{ForCause}
+use Rattle.sql_tables.proofs.BlameLemmas.{IsWhole}
 use Rattle.sql_tables.specs.Queries.{equals}
-use Rattle.sql_tables.proofs.ShownLemmas.{IsPlainQuery}
+use Rattle.sql_tables.proofs.ShownLemmas.{IsPlainQuery, plain_caused}
 use Rattle.sql_tables.specs.Forms.{HasForm}
 use Rattle.desk_rules.specs.declared.answers.reply.Sent.{Sent}
 use Rattle.sql_sent.specs.Told.{values_of}
@@ -46,6 +51,28 @@ reads_above = record { names = codes "number" ∷ []; is = refl; query = record 
 pub reads_below : IsPlainQuery below_text 9 (below ∷ []) (col 1 0 ∷ [])
 unfolding understood everything
 reads_below = record { names = codes "number" ∷ []; is = refl; query = record { selects = refl; plain = (refl, refl); unlisted = refl } }
+
+at_whole : IsWhole at_text 1
+unfolding understood everything
+at_whole = record { plain = (refl, refl); whole = refl; width_is = refl }
+
+above_whole : IsWhole above_text 1
+unfolding understood everything
+above_whole = record { plain = (refl, refl); whole = refl; width_is = refl }
+
+below_whole : IsWhole below_text 1
+unfolding understood everything
+below_whole = record { plain = (refl, refl); whole = refl; width_is = refl }
+
+module _ (old new : State) (has : old.now.schema ≡ desk_schema) (open' : IsTrue old.is_open) (number : ℤ) (r : Result (Vec Row Global) Error) where
+  pub at_caused : IfErr r (FailsToQuery at_text (Int number ∷ []) old new) → IfErr r (ForCause old new)
+  at_caused h = plain_caused reads_at (Int number ∷ []) old new has open' at_whole refl r h
+
+  pub above_caused : IfErr r (FailsToQuery above_text (Int number ∷ []) old new) → IfErr r (ForCause old new)
+  above_caused h = plain_caused reads_above (Int number ∷ []) old new has open' above_whole refl r h
+
+  pub below_caused : IfErr r (FailsToQuery below_text (Int number ∷ []) old new) → IfErr r (ForCause old new)
+  below_caused h = plain_caused reads_below (Int number ∷ []) old new has open' below_whole refl r h
 
 -- ---- the row of a number
 

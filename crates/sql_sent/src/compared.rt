@@ -10,7 +10,7 @@ ghost use Rattle.sql_tables.specs.Calls.{Soundly, tables};
 ghost use Rattle.sql_tables.specs.Schema.{desk_schema, sent_table};
 ghost use Rattle.sql_tables.specs.Forms.{AreAllFormed, HasForm};
 ghost use Rattle.sql_tables.specs.Order.{AreInOrder};
-ghost use Rattle.sql_tables.specs.Audits.{Audits, Consults};
+ghost use Rattle.sql_tables.specs.Audits.{Audits, AuditsForCause, Consults};
 ghost use Rattle.sql_sent.specs.Told.{AreTold, IsTold};
 
 use crate::compared::rows::{has_no_other, has_row};
@@ -43,6 +43,7 @@ fn is_told<S: Alter, R: Messages>(
     ensures exact { Soundly S.Store conn.old conn.new (IfTrusted (R.Register.view register.old) (R.Register.view register.new)
         (IfOk result (λ ok. IsTold ((tables S.Store conn.old).trees 9) (R.Register.view register.old).content.sent (before + 1) → IsTrue ok))) }
     ensures look { Audits S.Store conn.old conn.new result }
+    ensures blame { Soundly S.Store conn.old conn.new (AuditsForCause S.Store conn.old conn.new result) }
     ensures read { Consults result (R.Register.view register.old) (R.Register.view register.new) }
 {
     let Some(message) = register.message(alloc, before + 1)? else {
@@ -68,6 +69,7 @@ fn are_told<S: Alter, R: Messages>(
     ensures exact { Soundly S.Store conn.old conn.new (IfTrusted (R.Register.view register.old) (R.Register.view register.new)
         (IfOk result (λ ok. AreTold ((tables S.Store conn.old).trees 9) (R.Register.view register.old).content.sent count → IsTrue ok))) }
     ensures look { Audits S.Store conn.old conn.new result }
+    ensures blame { Soundly S.Store conn.old conn.new (AuditsForCause S.Store conn.old conn.new result) }
     ensures read { Consults result (R.Register.view register.old) (R.Register.view register.new) }
 {
     for before in 0..count {
@@ -92,6 +94,7 @@ pub fn has_sent<S: Alter, R: Messages>(
     ensures exact { Soundly S.Store conn.old conn.new (IfTrusted (R.Register.view register.old) (R.Register.view register.new)
         (IfOk result (λ ok. AreSent (tables S.Store conn.old) (R.Register.view register.old).content.sent → IsTrue ok))) }
     ensures look { Audits S.Store conn.old conn.new result }
+    ensures blame { Soundly S.Store conn.old conn.new (AuditsForCause S.Store conn.old conn.new result) }
     ensures read { Consults result (R.Register.view register.old) (R.Register.view register.new) }
 {
     let count = register.sent_count(alloc)?;

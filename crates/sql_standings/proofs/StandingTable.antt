@@ -1,5 +1,5 @@
 -- What the query of `state` shows, and what the table is then.
-use Rattle.std.proofs.Common.{◌≡◌, ◌≢◌, ◌⊎◌, inl, inr, ℕ, zero, suc, ◌+◌, ◌<◌, ◌≤◌, ◌^◌, pos, List, [], ◌∷◌, length, map, cond, codes, refl, sym, ap, subst, ◌∙◌, arith, Bool, true, false, if◌then◌else◌, Option, Some, None, Ok, Err, Result, IfOk, Vec}
+use Rattle.std.proofs.Common.{◌≡◌, ◌≢◌, ◌⊎◌, inl, inr, ℕ, zero, suc, ◌+◌, ◌<◌, ◌≤◌, ◌^◌, pos, List, [], ◌∷◌, length, map, cond, codes, refl, sym, ap, subst, ◌∙◌, arith, Bool, true, false, if◌then◌else◌, Option, Some, None, Ok, Err, Result, IfOk, IfErr, IsTrue, Vec}
 use Rattle.std.specs.declared.alloc.Global.{Global}
 use Rattle.sqlite.specs.declared.error.Error.{Error}
 use Rattle.std.specs.List.{AllByRecursion}
@@ -11,7 +11,7 @@ use Rattle.sqlite.specs.Command.TheVariants.{Select}
 use Rattle.sqlite.specs.Effect.{Database}
 use Rattle.sqlite.specs.Listing.{understood}
 use Rattle.sqlite.specs.Program.{overlay}
-use Rattle.sqlite.specs.State.{State, Shown}
+use Rattle.sqlite.specs.State.{State, FailsToQuery, Shown}
 use Rattle.sqlite_tied.specs.Compute.{everything}
 use Rattle.sqlite.proofs.Callers.{command_of, reads_as}
 use Rattle.sqlite_trees.specs.Tree.{IsTable}
@@ -29,6 +29,8 @@ use Rattle.sql_tables.specs.Order.{AreInOrder}
 use Rattle.sql_standings.specs.Standings.{columns_of, reason_code, standing_among, standing_written, state_code, state_written, written_in, IsStandingRow}
 use Rattle.sql_tables.specs.Whole.{shown_by, IsWhole}
 use Rattle.sql_tables.specs.Numbered.{and_row, numbered_from, row_with}
+use Rattle.sql_tables.specs.Ends.{ForCause}
+use Rattle.sql_tables.proofs.BlameLemmas.{IsWhole as IsOneText, query_caused}
 use Rattle.sql_tables.proofs.RowLemmas.{is_computed, whole, IsNumbered}
 use Rattle.sql_tables.proofs.NumberedLemmas.{each_row, rises}
 use Rattle.sql_standings.specs.Told.{row_by, wanted, written_of, AreTold, IsTold, SaysStandings, StandsWithin}
@@ -49,6 +51,13 @@ all_is = refl
 pub reads_all : IsQuery all_text
 unfolding understood everything
 reads_all = record { selects = refl; plain = (refl, refl); unlisted = refl }
+
+all_whole : IsOneText all_text 0
+unfolding understood everything
+all_whole = record { plain = (refl, refl); whole = refl; width_is = refl }
+
+pub all_caused : (old new : State) → old.now.schema ≡ desk_schema → IsTrue old.is_open → (r : Result (Vec Row Global) Error) → IfErr r (FailsToQuery all_text [] old new) → IfErr r (ForCause old new)
+all_caused old new has open' r h = query_caused old new has open' all_text [] all_whole _ _ all_is reads_all.unlisted refl refl refl r h
 
 shows_all : (old new : State) (rows : List Row) → old.now.schema ≡ desk_schema → IsTable (old.now.trees 8) → Shown all_text [] old new rows → rows ≡ map (shown_by 4) (old.now.trees 8)
 shows_all old new rows has up h =

@@ -4,12 +4,12 @@ ghost use Rattle.sqlite.specs.declared.types.Value.TheVariants.{Int};
 ghost use Rattle.sqlite.specs.Order.{column};
 ghost use Rattle.sqlite_trees.specs.Tree.{IsTable};
 ghost use Rattle.desk_register.specs.View.{IfTrusted, IsRead};
-ghost use Rattle.sql_tables.specs.Calls.{Looks, Soundly, tables};
+ghost use Rattle.sql_tables.specs.Calls.{FailsForCause, Looks, Soundly, tables};
 ghost use Rattle.sql_tables.specs.Schema.{desk_schema};
 ghost use Rattle.sql_tables.specs.Forms.{AreAllFormed};
 ghost use Rattle.sql_tables.specs.Order.{AreInOrder};
 ghost use Rattle.sql_standings.specs.Standings.{columns_of};
-ghost use Rattle.sql_tables.specs.Audits.{of_register, Audits, Consults};
+ghost use Rattle.sql_tables.specs.Audits.{of_register, Audits, AuditsForCause, Consults};
 ghost use Rattle.sql_tables.specs.Whole.{shown_by};
 ghost use Rattle.sql_standings.specs.Told.{written_of, AreTold, IsTold, SaysStandings, StandsWithin};
 
@@ -27,6 +27,7 @@ use std::alloc::Global;
 fn rows_of<S: Alter>(conn: &mut Connection<S>) -> Result<Vec<Row>, Error>
     ensures shown { Soundly S.Store conn.old conn.new (IsTable ((tables S.Store conn.old).trees 8) → IfOk result (λ rows. rows.items ≡ map (shown_by 4) ((tables S.Store conn.old).trees 8))) }
     ensures look { Looks S.Store conn.old conn.new result }
+    ensures blame { Soundly S.Store conn.old conn.new (FailsForCause S.Store conn.old conn.new result) }
 {
     query(
         conn,
@@ -130,6 +131,7 @@ pub fn has_standings<S: Alter, R: Register>(
     ensures exact { Soundly S.Store conn.old conn.new (IfTrusted (R.view register.old) (R.view register.new)
         (StandsWithin (R.view register.old).content → IfOk result (λ all. SaysStandings (tables S.Store conn.old) (R.view register.old).content → IsTrue all))) }
     ensures look { Audits S.Store conn.old conn.new result }
+    ensures blame { Soundly S.Store conn.old conn.new (AuditsForCause S.Store conn.old conn.new result) }
     ensures read { Consults result (R.view register.old) (R.view register.new) }
     ensures in_memory { R.in_memory ≡ true → IsOk (of_register result) }
 {

@@ -1,5 +1,5 @@
 -- What the text on `version` shows.
-use Rattle.std.proofs.Common.{◌≡◌, ◌↔◌, inl, inr, ℕ, pos, List, [], ◌∷◌, map, codes, Some, Bool, IsTrue, refl, sym, ap, subst, ◌∙◌, Ok, Err, Result, IfOk, Vec}
+use Rattle.std.proofs.Common.{◌≡◌, ◌↔◌, inl, inr, ℕ, pos, List, [], ◌∷◌, map, codes, Some, Bool, IsTrue, refl, sym, ap, subst, ◌∙◌, Ok, Err, Result, IfOk, IfErr, Vec}
 use Rattle.std.specs.declared.alloc.Global.{Global}
 use Rattle.std.specs.List.{AllByRecursion}
 use Rattle.std.specs.List.Sorted.{IsPermutation}
@@ -14,14 +14,16 @@ use Rattle.sqlite.specs.Command.TheVariants.{Select}
 use Rattle.sqlite.specs.Effect.{Database}
 use Rattle.sqlite.specs.Listing.{understood}
 use Rattle.sqlite.specs.Program.{overlay}
-use Rattle.sqlite.specs.State.{State, Shown}
+use Rattle.sqlite.specs.State.{State, FailsToQuery, Shown}
 use Rattle.sqlite.proofs.Callers.{command_of, one_permutation, reads_as}
 use Rattle.sqlite_tied.specs.Compute.{everything}
 use Rattle.sql_tables.specs.Queries.{plain}
 use Rattle.sql_tables.specs.Rows.{IsBare}
 use Rattle.sql_tables.specs.Schema.{desk_schema, version_table}
 use Rattle.sql_tables.specs.Statements.{IsQuery}
+use Rattle.sql_tables.specs.Ends.{ForCause}
 use Rattle.sql_tables.specs.Version.{HasVersion, SayVersion}
+use Rattle.sql_tables.proofs.BlameLemmas.{IsWhole, query_caused}
 use Rattle.sql_tables.proofs.QueryLemmas.{all_kept, plain_rows}
 use Rattle.sql_tables.specs.Forms.{AreValues, HasForm}
 
@@ -35,6 +37,13 @@ all_is = refl
 pub reads_all : IsQuery all_text
 unfolding understood everything
 reads_all = record { selects = refl; plain = (refl, refl); unlisted = refl }
+
+all_whole : IsWhole all_text 0
+unfolding understood everything
+all_whole = record { plain = (refl, refl); whole = refl; width_is = refl }
+
+pub all_caused : (old new : State) → old.now.schema ≡ desk_schema → IsTrue old.is_open → (r : Result (Vec Row Global) Error) → IfErr r (FailsToQuery all_text [] old new) → IfErr r (ForCause old new)
+all_caused old new has open' r h = query_caused old new has open' all_text [] all_whole _ _ all_is reads_all.unlisted refl refl refl r h
 
 abbrev number_shown : Row → Row
 number_shown row = rowid row ∷ []

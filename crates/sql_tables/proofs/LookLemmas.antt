@@ -3,10 +3,9 @@ use Rattle.std.proofs.Common.{◌≡◌, inl, inr, refl, ap, ◌∙◌, IsTrue, 
 use Rattle.sqlite.specs.declared.error.Error.{Error}
 use Rattle.sqlite.specs.State.{State, HasCleanDisk}
 use Rattle.sql_tables.specs.Schema.{desk_schema}
-use Rattle.sql_tables.specs.Ends.{SaysWhy, IsSame, IsUndone, FellLooking, IsLook}
-use Rattle.sql_tables.specs.Ends.{HasLooked}
+use Rattle.sql_tables.specs.Ends.{ForCause, IfSound, IsLater, SaysWhy, IsSame, IsUndone, FellLooking, IsLook, HasLooked}
 use Rattle.sql_tables.proofs.CallLemmas.{later_then}
-use Rattle.sql_tables.proofs.EndLemmas.{why_later}
+use Rattle.sql_tables.proofs.EndLemmas.{cause_onward, why_later}
 
 same_then : (a b c : State) → IsSame a b → IsSame b c → IsSame a c
 same_then a b c p q = record { is_open = q.is_open; now = q.now ∙ p.now; committed = q.committed ∙ p.committed; mode = q.mode ∙ p.mode; marks = q.marks ∙ p.marks }
@@ -65,3 +64,11 @@ look_none x a = record {
 -- one look more
 pub look_more : {X : Type 0} (x : X) (a b c : State) → HasLooked a b → IsLook (Ok x) b c → HasLooked a c
 look_more x a b c p q = look_ok x tt a c (look_then tt (Ok x) a b c p q)
+
+-- a look that fails for its cause, behind others
+pub cause_after : {X : Type 0} (r : Result X Error) (a b c : State) → HasLooked a b → IsLater b c → IfSound b c (IfErr r (ForCause b c)) → IfSound a c (IfErr r (ForCause a c))
+cause_after (Ok x) a b c looked later fails clean is_open has = tt
+cause_after (Err e) a b c looked later fails clean is_open has =
+    let clean1 : HasCleanDisk b = omega (arith, clean, later.clean) in
+    let same = looked.ok clean1 is_open has in
+    cause_onward a b c e looked.later later (fails clean same.is_open (ap (λ d. d.schema) same.now ∙ has))

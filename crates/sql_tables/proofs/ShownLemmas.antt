@@ -1,5 +1,5 @@
 -- What a text shows that queries one table, whichever it is: the rows that pass its tests.
-use Rattle.std.proofs.Common.{◌≡◌, ◌↔◌, ℕ, List, [], ◌∷◌, map, filter, Ok, Err, Result, IfOk, Vec}
+use Rattle.std.proofs.Common.{◌≡◌, ◌↔◌, ℕ, List, [], ◌∷◌, length, map, filter, true, IsTrue, Ok, Err, Result, IfOk, IfErr, Vec, refl}
 use Rattle.std.specs.declared.alloc.Global.{Global}
 use Rattle.std.specs.List.Sorted.{IsPermutation}
 use Rattle.sqlite.specs.declared.error.Error.{Error}
@@ -9,10 +9,13 @@ use Rattle.sqlite.specs.Term.{Term, eval_all}
 use Rattle.sqlite.specs.Command.TheVariants.{Select}
 use Rattle.sqlite.specs.Listing.{understood}
 use Rattle.sqlite.specs.Program.{overlay}
-use Rattle.sqlite.specs.State.{State, Shown}
+use Rattle.sqlite.specs.State.{State, FailsToQuery, Shown}
+use Rattle.sqlite_typing.specs.Types.{accepts_program}
 use Rattle.sqlite.proofs.Callers.{command_of, reads_as}
 use Rattle.sql_tables.specs.Schema.{desk_schema}
 use Rattle.sql_tables.specs.Statements.{IsQuery}
+use Rattle.sql_tables.specs.Ends.{ForCause}
+use Rattle.sql_tables.proofs.BlameLemmas.{IsWhole, query_caused}
 use Rattle.sql_tables.specs.Queries.{passes_all, plain}
 use Rattle.sql_tables.proofs.ByNumberLemmas.{nothing_shown, nothing_there}
 use Rattle.sql_tables.proofs.QueryLemmas.{plain_rows}
@@ -46,3 +49,7 @@ module _ {text : List ℕ} {tree : ℕ} {tests columns : List Term} (reads : IsP
       → IfOk r (λ rows. rows.items ≡ [] → filter (passes_all tests params) (overlay old.now.trees [] tree) ≡ [])
   none_passes (Ok rows) h = (none_shown (Ok rows) h).0
   none_passes (Err e) h = tt
+
+  -- it fails for its cause alone
+  pub plain_caused : IsTrue old.is_open → IsWhole text (length params) → accepts_program desk_schema [] (plain tree tests columns) params ≡ true → (r : Result (Vec Row Global) Error) → IfErr r (FailsToQuery text params old new) → IfErr r (ForCause old new)
+  plain_caused open' whole typed r h = query_caused old new has open' text params whole (plain tree tests columns) reads.names reads.is reads.query.unlisted typed refl refl r h

@@ -1,11 +1,11 @@
 -- How an audit ends: it only looks at the tables, and only reads the register; whichever of the two failed gave no answer.
-use Rattle.std.specs.Prelude.{⊤, Result, Ok, Err}
+use Rattle.std.specs.Prelude.{⊤, Result, Ok, Err, IfErr}
 use Rattle.sqlite_trees.specs.declared.store.Store.{Ghosts}
 use Rattle.sqlite.specs.declared.error.Error.{Error}
 use Rattle.sqlite.specs.Held.{Held, state}
 use Rattle.desk_register.specs.declared.register.Fault.{Fault}
 use Rattle.desk_register.specs.View.{View, IsRead}
-use Rattle.sql_tables.specs.Ends.{IsLook}
+use Rattle.sql_tables.specs.Ends.{ForCause, IsLook}
 use Rattle.sql_tables.specs.declared.fault.AuditFault.{AuditFault}
 use Rattle.sql_tables.specs.declared.fault.AuditFault.TheVariants.{Register, Tables}
 
@@ -23,6 +23,10 @@ of_register _ = Ok tt
 module _ {S : Type 0} (store : Ghosts S) (old new : Held S) where
   abbrev pub Audits : {X : Type 0} → Result X AuditFault → Type 0
   Audits result = IsLook (of_tables result) (state store old) (state store new)
+
+  -- where the tables gave no answer, they did so for want, or since the device failed in it
+  abbrev pub AuditsForCause : {X : Type 0} → Result X AuditFault → Type 0
+  AuditsForCause result = IfErr (of_tables result) (ForCause (state store old) (state store new))
 
 -- its calls of the register
 abbrev pub Consults : {X : Type 0} → Result X AuditFault → View → View → Type 0

@@ -5,7 +5,7 @@ use Rattle.sqlite_rules.specs.Edit.{IsNoIndex}
 use Rattle.sqlite.specs.Effect.{Database}
 use Rattle.sqlite.specs.declared.error.Error.{Error}
 use Rattle.sqlite.specs.declared.error.Error.TheVariants.{SqliteFailure}
-use Rattle.sqlite.specs.declared.error.ErrorCode.TheVariants.{OutOfMemory, TooBig, NoRowid}
+use Rattle.sqlite.specs.declared.error.ErrorCode.TheVariants.{DatabaseCorrupt, OutOfMemory, TooBig, NoRowid}
 use Rattle.sqlite.specs.State.{State, HasCleanDisk}
 use Rattle.sql_tables.specs.Schema.{desk_schema}
 
@@ -20,6 +20,10 @@ IsWant (SqliteFailure OutOfMemory) = Unit {0}
 IsWant (SqliteFailure TooBig) = Unit {0}
 IsWant (SqliteFailure NoRowid) = Unit {0}
 IsWant error = ⊥
+
+-- what a row is answered with that no call of the desk writes
+abbrev pub IsCorrupt : Error → Type 0
+IsCorrupt error = error ≡ SqliteFailure DatabaseCorrupt
 
 module _ (old new : State) where
   -- no doubt is taken back, no fault forgotten, and no limit is set on the steps of a query

@@ -1,6 +1,6 @@
 //! What a shown row holds: the number, the text or the code in a column; and what a look-up shows, one column of one row or no
 //! row. What is none that the desk writes is answered with `CORRUPT`.
-ghost use Rattle.std.specs.Prelude.{◌≡◌, ◌<◌, ◌^◌, ℕ, List, Option, length, pos, is_some, option_map, Ok, IfOk, IfSome, IsOk};
+ghost use Rattle.std.specs.Prelude.{◌≡◌, ◌<◌, ◌^◌, ℕ, List, Option, length, pos, is_some, option_map, Ok, IfErr, IfOk, IfSome, IsOk};
 ghost use Rattle.sqlite.specs.Order.{column};
 ghost use Rattle.sqlite.specs.declared.types.Value.TheVariants.{Int, Text as Words};
 ghost use Rattle.desk_codes.specs.Account.{IsAccount};
@@ -14,6 +14,7 @@ ghost use Rattle.desk_msg.specs.MessageType.{number_of_type};
 ghost use Rattle.desk_msg.specs.Profile.{code_of_kind, IsCode};
 ghost use Rattle.desk_msg.specs.declared.instruction.Kind.{Kind as QuantityType};
 ghost use Rattle.desk_msg.specs.declared.mt.Mt.{Mt as MessageType};
+ghost use Rattle.sql_tables.specs.Ends.{IsCorrupt};
 ghost use Rattle.sql_tables.specs.Rows.{number_rows, text_rows};
 
 use crate::values::CORRUPT;
@@ -26,6 +27,7 @@ use sqlite::{Error, Row};
 pub fn text_at(row: &Row, at: usize) -> Result<&[u8], Error>
     ensures value { IfOk result (λ text. column row.now at ≡ Words text.now) }
     ensures all { (text : List ℕ) → at < length row.now → column row.now at ≡ Words text → IsOk result }
+    ensures fails { at < length row.now → IfErr result IsCorrupt }
 {
     match row.get_ref(at)? {
         ValueRef::Text(text) => Ok(text),
@@ -37,6 +39,7 @@ pub fn text_at(row: &Row, at: usize) -> Result<&[u8], Error>
 pub fn number_at(row: &Row, at: usize) -> Result<u64, Error>
     ensures value { IfOk result (λ number. column row.now at ≡ Int (pos number)) }
     ensures all { (number : ℕ) → at < length row.now → column row.now at ≡ Int (pos number) → result ≡ Ok number }
+    ensures fails { at < length row.now → IfErr result IsCorrupt }
 {
     match row.get_ref(at)? {
         ValueRef::Int(number) => match u64::try_from(number) {
@@ -51,6 +54,7 @@ pub fn number_at(row: &Row, at: usize) -> Result<u64, Error>
 pub fn reference_at(row: &Row, at: usize) -> Result<Reference, Error>
     ensures value { IfOk result (λ reference. column row.now at ≡ Words reference) }
     ensures all { (text : List ℕ) → at < length row.now → column row.now at ≡ Words text → IsReference text → IsOk result }
+    ensures fails { at < length row.now → IfErr result IsCorrupt }
 {
     match Reference::read(text_at(row, at)?) {
         Some(reference) => Ok(reference),
@@ -62,6 +66,7 @@ pub fn reference_at(row: &Row, at: usize) -> Result<Reference, Error>
 pub fn account_at(row: &Row, at: usize) -> Result<AccountId, Error>
     ensures value { IfOk result (λ account. column row.now at ≡ Words account) }
     ensures all { (text : List ℕ) → at < length row.now → column row.now at ≡ Words text → IsAccount text → IsOk result }
+    ensures fails { at < length row.now → IfErr result IsCorrupt }
 {
     match AccountId::read(text_at(row, at)?) {
         Some(account) => Ok(account),
@@ -73,6 +78,7 @@ pub fn account_at(row: &Row, at: usize) -> Result<AccountId, Error>
 pub fn isin_at(row: &Row, at: usize) -> Result<Isin, Error>
     ensures value { IfOk result (λ isin. column row.now at ≡ Words isin) }
     ensures all { (text : List ℕ) → at < length row.now → column row.now at ≡ Words text → IsIsin text → IsOk result }
+    ensures fails { at < length row.now → IfErr result IsCorrupt }
 {
     match Isin::parse(text_at(row, at)?) {
         Ok(isin) => Ok(isin),
@@ -84,6 +90,7 @@ pub fn isin_at(row: &Row, at: usize) -> Result<Isin, Error>
 pub fn bic_at(row: &Row, at: usize) -> Result<Bic, Error>
     ensures value { IfOk result (λ bic. column row.now at ≡ Words bic) }
     ensures all { (text : List ℕ) → at < length row.now → column row.now at ≡ Words text → IsBic text → IsOk result }
+    ensures fails { at < length row.now → IfErr result IsCorrupt }
 {
     let text = text_at(row, at)?;
     match Bic::parse(text) {
@@ -101,6 +108,7 @@ pub fn bic_at(row: &Row, at: usize) -> Result<Bic, Error>
 pub fn day_at(row: &Row, at: usize) -> Result<Day, Error>
     ensures value { IfOk result (λ day. column row.now at ≡ Words day) }
     ensures all { (text : List ℕ) → at < length row.now → column row.now at ≡ Words text → IsDay text → IsOk result }
+    ensures fails { at < length row.now → IfErr result IsCorrupt }
 {
     let text = text_at(row, at)?;
     if text.len() != 8 {
@@ -118,6 +126,7 @@ pub fn day_at(row: &Row, at: usize) -> Result<Day, Error>
 pub fn currency_at(row: &Row, at: usize) -> Result<Ccy, Error>
     ensures value { IfOk result (λ ccy. column row.now at ≡ Words (letters_of ccy)) }
     ensures all { (ccy : Currency) → at < length row.now → column row.now at ≡ Words (letters_of ccy) → IsOk result }
+    ensures fails { at < length row.now → IfErr result IsCorrupt }
 {
     match Ccy::parse(text_at(row, at)?) {
         Some(ccy) => Ok(ccy),
@@ -129,6 +138,7 @@ pub fn currency_at(row: &Row, at: usize) -> Result<Ccy, Error>
 pub fn kind_at(row: &Row, at: usize) -> Result<Kind, Error>
     ensures value { IfOk result (λ kind. column row.now at ≡ Words (code_of_kind kind)) }
     ensures all { (kind : QuantityType) → at < length row.now → column row.now at ≡ Words (code_of_kind kind) → IsOk result }
+    ensures fails { at < length row.now → IfErr result IsCorrupt }
 {
     match Kind::try_from(text_at(row, at)?) {
         Ok(kind) => Ok(kind),
@@ -140,6 +150,7 @@ pub fn kind_at(row: &Row, at: usize) -> Result<Kind, Error>
 pub fn settlement_at(row: &Row, at: usize) -> Result<SettlementType, Error>
     ensures value { IfOk result (λ settlement. column row.now at ≡ Words settlement) }
     ensures all { (text : List ℕ) → at < length row.now → column row.now at ≡ Words text → IsCode 4 text → IsOk result }
+    ensures fails { at < length row.now → IfErr result IsCorrupt }
 {
     match SettlementType::read(text_at(row, at)?) {
         Some(settlement) => Ok(settlement),
@@ -151,6 +162,7 @@ pub fn settlement_at(row: &Row, at: usize) -> Result<SettlementType, Error>
 pub fn short_at(row: &Row, at: usize) -> Result<u16, Error>
     ensures value { IfOk result (λ number. column row.now at ≡ Int (pos number)) }
     ensures all { (number : ℕ) → number < 2 ^ 16 → at < length row.now → column row.now at ≡ Int (pos number) → IsOk result }
+    ensures fails { at < length row.now → IfErr result IsCorrupt }
 {
     match u16::try_from(number_at(row, at)?) {
         Ok(number) => Ok(number),
@@ -162,6 +174,7 @@ pub fn short_at(row: &Row, at: usize) -> Result<u16, Error>
 pub fn mt_at(row: &Row, at: usize) -> Result<Mt, Error>
     ensures value { IfOk result (λ mt. column row.now at ≡ Int (pos (number_of_type mt))) }
     ensures all { (mt : MessageType) → at < length row.now → column row.now at ≡ Int (pos (number_of_type mt)) → IsOk result }
+    ensures fails { at < length row.now → IfErr result IsCorrupt }
 {
     match Mt::try_from(short_at(row, at)?) {
         Ok(mt) => Ok(mt),

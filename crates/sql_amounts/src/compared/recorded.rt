@@ -4,7 +4,7 @@ ghost use Rattle.desk_rules.specs.Content.{history_of};
 ghost use Rattle.desk_register.specs.View.{IfTrusted};
 ghost use Rattle.sql_amounts.specs.Amounts.{AreAmounts};
 ghost use Rattle.sql_tables.specs.Calls.{Soundly, tables};
-ghost use Rattle.sql_tables.specs.Audits.{Audits, Consults};
+ghost use Rattle.sql_tables.specs.Audits.{Audits, AuditsForCause, Consults};
 ghost use Rattle.sql_amounts.specs.Recorded.{AreAllRecorded, AreHoldingsRecorded, IsCashRecorded, IsEntryRecorded, IsNumberRecorded, IsPaidRecorded, IsRecorded, SaysAll};
 
 use crate::amounts::amount;
@@ -30,6 +30,7 @@ fn is_recorded<S: Alter, R: Register>(
     ensures exact { Soundly S.Store conn.old conn.new (IfTrusted (R.view register.old) (R.view register.new)
         (SaysAll (tables S.Store conn.old) (R.view register.old).content → IfOk result (λ so. IsTrue so))) }
     ensures look { Audits S.Store conn.old conn.new result }
+    ensures blame { Soundly S.Store conn.old conn.new (AreAmounts (tables S.Store conn.old) → AuditsForCause S.Store conn.old conn.new result) }
     ensures read { Consults result (R.view register.old) (R.view register.new) }
 {
     let recorded = amount(conn, key)?;
@@ -51,6 +52,7 @@ fn are_holdings_recorded<S: Alter, R: Register>(
     ensures exact { Soundly S.Store conn.old conn.new (IfTrusted (R.view register.old) (R.view register.new)
         (SaysAll (tables S.Store conn.old) (R.view register.old).content → length (history_of (R.view register.old).content) ≤ count → IfOk result (λ so. IsTrue so))) }
     ensures look { Audits S.Store conn.old conn.new result }
+    ensures blame { Soundly S.Store conn.old conn.new (AreAmounts (tables S.Store conn.old) → AuditsForCause S.Store conn.old conn.new result) }
     ensures read { Consults result (R.view register.old) (R.view register.new) }
 {
     let mut last = None;
@@ -86,6 +88,7 @@ fn are_cash_recorded<S: Alter, R: Register>(
     ensures exact { Soundly S.Store conn.old conn.new (IfTrusted (R.view register.old) (R.view register.new)
         (SaysAll (tables S.Store conn.old) (R.view register.old).content → IfOk result (λ so. IsTrue so))) }
     ensures look { Audits S.Store conn.old conn.new result }
+    ensures blame { Soundly S.Store conn.old conn.new (AreAmounts (tables S.Store conn.old) → AuditsForCause S.Store conn.old conn.new result) }
     ensures read { Consults result (R.view register.old) (R.view register.new) }
 {
     for ccy in ccys {
@@ -110,6 +113,7 @@ fn is_cash_recorded<S: Alter, R: Register>(
     ensures exact { Soundly S.Store conn.old conn.new (IfTrusted (R.view register.old) (R.view register.new)
         (SaysAll (tables S.Store conn.old) (R.view register.old).content → IfOk result (λ so. IsTrue so))) }
     ensures look { Audits S.Store conn.old conn.new result }
+    ensures blame { Soundly S.Store conn.old conn.new (AreAmounts (tables S.Store conn.old) → AuditsForCause S.Store conn.old conn.new result) }
     ensures read { Consults result (R.view register.old) (R.view register.new) }
 {
     are_cash_recorded(alloc, conn, register, bic, &CURRENCIES)
@@ -128,6 +132,7 @@ fn are_paid_recorded<S: Alter, R: Register>(
     ensures exact { Soundly S.Store conn.old conn.new (IfTrusted (R.view register.old) (R.view register.new)
         (SaysAll (tables S.Store conn.old) (R.view register.old).content → IfOk result (λ so. IsTrue so))) }
     ensures look { Audits S.Store conn.old conn.new result }
+    ensures blame { Soundly S.Store conn.old conn.new (AreAmounts (tables S.Store conn.old) → AuditsForCause S.Store conn.old conn.new result) }
     ensures read { Consults result (R.view register.old) (R.view register.new) }
 {
     for ccy in ccys {
@@ -151,6 +156,7 @@ pub fn is_paid_recorded<S: Alter, R: Register>(
     ensures exact { Soundly S.Store conn.old conn.new (IfTrusted (R.view register.old) (R.view register.new)
         (SaysAll (tables S.Store conn.old) (R.view register.old).content → IfOk result (λ so. IsTrue so))) }
     ensures look { Audits S.Store conn.old conn.new result }
+    ensures blame { Soundly S.Store conn.old conn.new (AreAmounts (tables S.Store conn.old) → AuditsForCause S.Store conn.old conn.new result) }
     ensures read { Consults result (R.view register.old) (R.view register.new) }
 {
     are_paid_recorded(alloc, conn, register, &CURRENCIES)
@@ -169,6 +175,7 @@ fn is_outstanding_recorded<S: Alter, R: Register>(
     ensures exact { Soundly S.Store conn.old conn.new (IfTrusted (R.view register.old) (R.view register.new)
         (SaysAll (tables S.Store conn.old) (R.view register.old).content → IfOk result (λ so. IsTrue so))) }
     ensures look { Audits S.Store conn.old conn.new result }
+    ensures blame { Soundly S.Store conn.old conn.new (AreAmounts (tables S.Store conn.old) → AuditsForCause S.Store conn.old conn.new result) }
     ensures read { Consults result (R.view register.old) (R.view register.new) }
 {
     is_recorded(alloc, conn, register, &AmountKey::Security(movement.isin))
@@ -188,6 +195,7 @@ fn is_entry_recorded<S: Alter, R: Register>(
     ensures exact { Soundly S.Store conn.old conn.new (IfTrusted (R.view register.old) (R.view register.new)
         (SaysAll (tables S.Store conn.old) (R.view register.old).content → length (history_of (R.view register.old).content) ≤ count → IfOk result (λ so. IsTrue so))) }
     ensures look { Audits S.Store conn.old conn.new result }
+    ensures blame { Soundly S.Store conn.old conn.new (AreAmounts (tables S.Store conn.old) → AuditsForCause S.Store conn.old conn.new result) }
     ensures read { Consults result (R.view register.old) (R.view register.new) }
 {
     match entry {
@@ -215,6 +223,7 @@ fn is_number_recorded<S: Alter, R: Register>(
     ensures exact { Soundly S.Store conn.old conn.new (IfTrusted (R.view register.old) (R.view register.new)
         (SaysAll (tables S.Store conn.old) (R.view register.old).content → length (history_of (R.view register.old).content) ≤ count → IfOk result (λ so. IsTrue so))) }
     ensures look { Audits S.Store conn.old conn.new result }
+    ensures blame { Soundly S.Store conn.old conn.new (AreAmounts (tables S.Store conn.old) → AuditsForCause S.Store conn.old conn.new result) }
     ensures read { Consults result (R.view register.old) (R.view register.new) }
 {
     let entry = register.entry(alloc, number)?;
@@ -237,6 +246,7 @@ pub fn are_entries_recorded<S: Alter, R: Register>(
     ensures exact { Soundly S.Store conn.old conn.new (IfTrusted (R.view register.old) (R.view register.new)
         (SaysAll (tables S.Store conn.old) (R.view register.old).content → IfOk result (λ so. IsTrue so))) }
     ensures look { Audits S.Store conn.old conn.new result }
+    ensures blame { Soundly S.Store conn.old conn.new (AreAmounts (tables S.Store conn.old) → AuditsForCause S.Store conn.old conn.new result) }
     ensures read { Consults result (R.view register.old) (R.view register.new) }
 {
     let count = register.count(alloc)?;

@@ -3,11 +3,11 @@ ghost use Rattle.std.specs.Prelude.{◌≡◌, map, IsTrue, IfOk};
 ghost use Rattle.std.specs.List.Sorted.{IsPermutation};
 ghost use Rattle.desk_register.specs.View.{IfTrusted};
 ghost use Rattle.sql_amounts.specs.Keys.{tree_of};
-ghost use Rattle.sql_tables.specs.Calls.{Looks, Soundly, tables};
+ghost use Rattle.sql_tables.specs.Calls.{FailsForCause, Looks, Soundly, tables};
 ghost use Rattle.sql_tables.specs.Schema.{desk_schema};
 ghost use Rattle.sql_tables.specs.Forms.{AreAllFormed};
 ghost use Rattle.sql_tables.specs.Order.{AreInOrder};
-ghost use Rattle.sql_tables.specs.Audits.{Audits, Consults};
+ghost use Rattle.sql_tables.specs.Audits.{Audits, AuditsForCause, Consults};
 ghost use Rattle.sql_amounts.specs.Said.{HasReadable};
 ghost use Rattle.sql_amounts.specs.Shown.{all_text, shown, AreTrueTables, IsTrueTable};
 
@@ -34,6 +34,7 @@ fn query_of_all(ledger: Ledger) -> &'static str
 fn rows_of<S: Alter>(conn: &mut Connection<S>, ledger: Ledger) -> Result<Vec<Row>, Error>
     ensures shown { Soundly S.Store conn.old conn.new (IfOk result (λ rows. IsPermutation (map shown ((tables S.Store conn.old).trees (tree_of ledger))) rows.items)) }
     ensures look { Looks S.Store conn.old conn.new result }
+    ensures blame { Soundly S.Store conn.old conn.new (FailsForCause S.Store conn.old conn.new result) }
 {
     let text = query_of_all(ledger);
     query(conn, text, &[])
@@ -53,6 +54,7 @@ fn is_true_table<S: Alter, R: Register>(
     ensures exact { Soundly S.Store conn.old conn.new (IfTrusted (R.view register.old) (R.view register.new)
         (IsTrueTable (tables S.Store conn.old) (R.view register.old).content ledger → HasReadable (R.view register.old).content → IfOk result (λ so. IsTrue so))) }
     ensures look { Audits S.Store conn.old conn.new result }
+    ensures blame { Soundly S.Store conn.old conn.new (AuditsForCause S.Store conn.old conn.new result) }
     ensures read { Consults result (R.view register.old) (R.view register.new) }
 {
     let rows = rows_of(conn, ledger)?;
@@ -73,6 +75,7 @@ pub fn are_true_tables<S: Alter, R: Register>(
     ensures exact { Soundly S.Store conn.old conn.new (IfTrusted (R.view register.old) (R.view register.new)
         (AreTrueTables (tables S.Store conn.old) (R.view register.old).content → HasReadable (R.view register.old).content → IfOk result (λ so. IsTrue so))) }
     ensures look { Audits S.Store conn.old conn.new result }
+    ensures blame { Soundly S.Store conn.old conn.new (AuditsForCause S.Store conn.old conn.new result) }
     ensures read { Consults result (R.view register.old) (R.view register.new) }
 {
     if !is_true_table(alloc, conn, register, Ledger::Balance)? {

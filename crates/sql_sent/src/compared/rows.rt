@@ -5,7 +5,7 @@ ghost use Rattle.std.specs.List.Sorted.{IsPermutation};
 ghost use Rattle.sqlite.specs.Values.{bound};
 ghost use Rattle.sqlite.specs.declared.types.Value.TheVariants.{Int};
 ghost use Rattle.sqlite_value.specs.Value.{owned};
-ghost use Rattle.sql_tables.specs.Calls.{Looks, Soundly, tables};
+ghost use Rattle.sql_tables.specs.Calls.{FailsForCause, Looks, Soundly, tables};
 ghost use Rattle.sql_tables.specs.Schema.{sent_table};
 ghost use Rattle.sql_tables.specs.Forms.{HasForm};
 ghost use Rattle.sql_tables.specs.ByNumber.{has_number, is_above, is_below, HasNoOther, HasOne};
@@ -25,6 +25,7 @@ fn rows_at<S: Alter>(conn: &mut Connection<S>, number: u64) -> Result<Vec<Row>, 
     requires { number < 2 ^ 63 }
     ensures shown { Soundly S.Store conn.old conn.new (IfOk result (λ rows. IsPermutation (map (shown_by 4) (filter (has_number number) ((tables S.Store conn.old).trees 9))) rows.items)) }
     ensures look { Looks S.Store conn.old conn.new result }
+    ensures blame { Soundly S.Store conn.old conn.new (FailsForCause S.Store conn.old conn.new result) }
 {
     query(
         conn,
@@ -38,6 +39,7 @@ fn rows_above<S: Alter>(conn: &mut Connection<S>, number: u64) -> Result<Vec<Row
     requires { number < 2 ^ 63 }
     ensures shown { Soundly S.Store conn.old conn.new (IfOk result (λ rows. rows.items ≡ [] ↔ filter (is_above number) ((tables S.Store conn.old).trees 9) ≡ [])) }
     ensures look { Looks S.Store conn.old conn.new result }
+    ensures blame { Soundly S.Store conn.old conn.new (FailsForCause S.Store conn.old conn.new result) }
 {
     query(
         conn,
@@ -51,6 +53,7 @@ fn rows_below<S: Alter>(conn: &mut Connection<S>, number: u64) -> Result<Vec<Row
     requires { number < 2 ^ 63 }
     ensures shown { Soundly S.Store conn.old conn.new (IfOk result (λ rows. rows.items ≡ [] ↔ filter (is_below number) ((tables S.Store conn.old).trees 9) ≡ [])) }
     ensures look { Looks S.Store conn.old conn.new result }
+    ensures blame { Soundly S.Store conn.old conn.new (FailsForCause S.Store conn.old conn.new result) }
 {
     query(
         conn,
@@ -96,6 +99,7 @@ pub fn has_row<S: Alter>(
         → IfOk result (λ ok. IsTrue ok → HasOne ((tables S.Store conn.old).trees 9) number (values_of message.now))) }
     ensures exact { Soundly S.Store conn.old conn.new (IfOk result (λ ok. HasOne ((tables S.Store conn.old).trees 9) number (values_of message.now) → IsTrue ok)) }
     ensures look { Looks S.Store conn.old conn.new result }
+    ensures blame { Soundly S.Store conn.old conn.new (FailsForCause S.Store conn.old conn.new result) }
 {
     let rows = rows_at(conn, number)?;
     Ok(is_row_of(&rows, number, message))
@@ -106,6 +110,7 @@ pub fn has_no_other<S: Alter>(conn: &mut Connection<S>, count: u64) -> Result<bo
     requires { count < 2 ^ 63 }
     ensures none { Soundly S.Store conn.old conn.new (IfOk result (λ ok. IsTrue ok ↔ HasNoOther ((tables S.Store conn.old).trees 9) count)) }
     ensures look { Looks S.Store conn.old conn.new result }
+    ensures blame { Soundly S.Store conn.old conn.new (FailsForCause S.Store conn.old conn.new result) }
 {
     if !rows_above(conn, count)?.is_empty() {
         return Ok(false);

@@ -7,6 +7,8 @@ use Rattle.sql_tables.specs.Ends.{IsSame}
 use Rattle.sql_tables.specs.Schema.{desk_schema, register_table}
 use Rattle.sql_tables.specs.Forms.{HasForm}
 use Rattle.sql_tables.proofs.LookLemmas.{look_more}
+use Rattle.sql_amounts.proofs.WalkLemmas.{cause_failed}
+use Rattle.audit_desk.specs.declared.register.Step.{Step}
 use Rattle.sql_tables.specs.declared.compared.TheConstants.{MOST}
 use Rattle.sql_tables.specs.ByNumber.{HasNoOther}
 use Rattle.audit_desk.specs.declared.register.Reading.TheVariants.{Whole}
@@ -100,3 +102,15 @@ returns-in-Nothing-clause-holds g c = λ honest sure whole.
     let honest1 = e.later.honest honest in
     let same : v2.content ≡ v1.content = e.same honest (i.done.sure honest1 sure) c.in-Nothing.is in
     subst (HoldsFormed v0.room) (sym same) (i.holds honest1 sure)
+
+pub returns-in_err-read_entry-clause-cause : goal.returns-in_err-read_entry-clause-cause
+returns-in_err-read_entry-clause-cause g c clean is_open has =
+    let s0 = state g.S.Store c.args.conn.now in
+    let s1 = state g.S.Store c.loop-before.conn in
+    let s2 = state g.S.Store c.read_entry.new.conn in
+    let i = c.loop-before.invariant in
+    let later = c.read_entry.ensures.look.later in
+    let clean1 : HasCleanDisk s1 = (let less = later.clean in omega (arith, less, clean)) in
+    let same : IsSame s0 s1 = i.look.ok clean1 is_open has in
+    cause_failed Step c.in_err-read_entry.field-0.0 c.from_residual.result c.from_residual.ensures.1 s0 s1 s2 i.look.later later
+    (c.in_err-read_entry.ensures.cause clean same.is_open (ap (λ (d : Database). d.schema) same.now ∙ has))

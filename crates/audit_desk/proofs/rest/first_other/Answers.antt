@@ -1,4 +1,4 @@
-use Rattle.std.proofs.Common.{IsTrue, arith}
+use Rattle.std.proofs.Common.{◌∙◌, ap, subst, sym, Bool, IsTrue, arith}
 use Rattle.std.proofs.lemmas.Bool.{both_ways}
 use Rattle.sqlite.specs.Effect.{Database}
 use Rattle.sqlite.specs.Held.{state}
@@ -6,9 +6,12 @@ use Rattle.sqlite.specs.State.{HasCleanDisk}
 use Rattle.desk_rules.specs.Content.{Content}
 use Rattle.sql_sent.specs.Messages.{AreSent}
 use Rattle.sql_amounts.specs.Said.{HasAmounts, HasReadable}
-use Rattle.sql_amounts.proofs.WalkLemmas.{found_so}
+use Rattle.sql_amounts.proofs.WalkLemmas.{cause_failed, found_so}
 use Rattle.desk_register.specs.View.{HasRead}
-use Rattle.sql_tables.specs.Ends.{HasLooked}
+use Rattle.sql_tables.specs.Ends.{HasLooked, IsSame}
+use Rattle.sql_tables.specs.Schema.{desk_schema}
+use Rattle.sql_tables.specs.Forms.{AreAllFormed}
+use Rattle.sql_tables.specs.Order.{AreInOrder}
 use Rattle.sql_tables.proofs.LookLemmas.{look_more}
 use Rattle.desk_register.proofs.ReadLemmas.{read_more}
 use Rattle.audit_desk.proofs.GoneLemmas.{moved, IsAccepted}
@@ -75,3 +78,37 @@ returns-then-not-branch-3-clause-exact g c = λ clean is_open has honest sure he
     (found_so s0 s2 (state g.S.Store c.has_amounts.new.conn) v0 v2 (g.R.Register.view c.has_amounts.new.register) l2 r2 e3.look.later e3.read.later
     (λ (d : Database) (x : Content). HasReadable x × HasAmounts d x)
     (λ clean is_open has honest sure both. e3.exact clean is_open has honest sure both.0 both.1) clean is_open has honest sure (readable v0.room v0.content held formed, rest.amounts)))
+
+pub returns-in_err-has_sent-clause-cause : goal.returns-in_err-has_sent-clause-cause
+returns-in_err-has_sent-clause-cause g c = λ clean is_open has honest sure order formed.
+    let s0 = state g.S.Store c.args.conn.now in
+    let s1 = state g.S.Store c.has_standings.new.conn in
+    let s2 = state g.S.Store c.has_sent.new.conn in
+    let e1 = c.in_ok-has_standings.ensures in
+    let later = c.has_sent.ensures.look.later in
+    let clean1 : HasCleanDisk s1 = (let less = later.clean in omega (arith, less, clean)) in
+    let same : IsSame s0 s1 = e1.look.ok clean1 is_open has in
+    cause_failed Bool c.in_err-has_sent.field-0.0 c.from_residual-in_err-has_sent.result c.from_residual-in_err-has_sent.ensures.1 s0 s1 s2 e1.look.later later
+    (c.in_err-has_sent.ensures.blame clean same.is_open (ap (λ (d : Database). d.schema) same.now ∙ has))
+
+pub returns-in_err-has_amounts-clause-cause : goal.returns-in_err-has_amounts-clause-cause
+returns-in_err-has_amounts-clause-cause g c = λ clean3 is_open has honest3 sure order formed.
+    let s0 = state g.S.Store c.args.conn.now in
+    let s1 = state g.S.Store c.has_standings.new.conn in
+    let s2 = state g.S.Store c.has_sent.new.conn in
+    let s3 = state g.S.Store c.has_amounts.new.conn in
+    let v0 = g.R.Register.view c.args.register.now in
+    let v1 = g.R.Register.view c.has_standings.new.register in
+    let v2 = g.R.Register.view c.has_sent.new.register in
+    let e1 = c.in_ok-has_standings.ensures in
+    let e2 = c.in_ok-has_sent.ensures in
+    let later = c.has_amounts.ensures.look.later in
+    let l2 : HasLooked s0 s2 = look_more tt s0 s1 s2 e1.look e2.look in
+    let r2 : HasRead v0 v2 = read_more tt v0 v1 v2 e1.read e2.read in
+    let clean2 : HasCleanDisk s2 = (let less = later.clean in omega (arith, less, clean3)) in
+    let same : IsSame s0 s2 = l2.ok clean2 is_open has in
+    let honest2 = c.has_amounts.ensures.read.later.honest honest3 in
+    let order2 = subst (λ (d : Database). AreInOrder desk_schema d.trees) (sym same.now) order in
+    let formed2 = subst (λ (d : Database). AreAllFormed d.trees) (sym same.now) formed in
+    cause_failed Bool c.in_err-has_amounts.field-0.0 c.from_residual-in_err-has_amounts.result c.from_residual-in_err-has_amounts.ensures.1 s0 s2 s3 l2.later later
+    (c.in_err-has_amounts.ensures.blame clean3 same.is_open (ap (λ (d : Database). d.schema) same.now ∙ has) honest3 (r2.ok.sure honest2 sure) order2 formed2)

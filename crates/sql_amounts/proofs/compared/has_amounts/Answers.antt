@@ -1,7 +1,9 @@
-use Rattle.std.proofs.Common.{IfOk, IsTrue, sym, ◌∙◌}
+use Rattle.std.proofs.Common.{Bool, IfOk, IsTrue, ap, arith, subst, sym, ◌∙◌}
 use Rattle.sqlite.specs.Held.{state}
 use Rattle.sql_amounts.specs.Amounts.{AreAmounts}
-use Rattle.sql_tables.specs.Ends.{HasLooked}
+use Rattle.sqlite.specs.Effect.{Database}
+use Rattle.sqlite.specs.State.{HasCleanDisk}
+use Rattle.sql_tables.specs.Ends.{HasLooked, IsSame}
 use Rattle.sql_tables.specs.Schema.{desk_schema}
 use Rattle.sql_tables.proofs.LookLemmas.{look_more}
 use Rattle.desk_register.specs.View.{HasRead}
@@ -11,7 +13,7 @@ use Rattle.sql_tables.specs.Order.{AreInOrder}
 use Rattle.sql_amounts.specs.Recorded.{AreAllRecorded, IsPaidRecorded, SaysAll}
 use Rattle.sql_amounts.specs.Shown.{AreTrueTables}
 use Rattle.sql_amounts.proofs.EntryLemmas.{amounts_of, says_all, tables_of}
-use Rattle.sql_amounts.proofs.WalkLemmas.{found_so, has_told, in_three}
+use Rattle.sql_amounts.proofs.WalkLemmas.{cause_failed, cause_on, found_so, has_told, in_three}
 use Rattle.sql_amounts.proofs.compared.has_amounts.Goals as goal
 
 pub returns-clause-says : goal.returns-clause-says
@@ -63,3 +65,35 @@ returns-clause-exact g c = λ clean is_open has honest sure can it.
     let read : HasRead v0 v2 = read_more tt v0 v1 v2 one.read two.read in
     found_so s0 s2 (state g.S.Store c.is_paid_recorded.new.conn) v0 v2 (g.R.Register.view c.is_paid_recorded.new.register) looked read three.look.later three.read.later SaysAll three.exact clean is_open has honest sure
     (says_all s0.now v0.content can it)
+
+pub returns-in_err-are_entries_recorded-clause-blame : goal.returns-in_err-are_entries_recorded-clause-blame
+returns-in_err-are_entries_recorded-clause-blame g c = λ clean is_open has honest sure order formed.
+    let s0 = state g.S.Store c.args.conn.now in
+    let s1 = state g.S.Store c.are_true_tables.new.conn in
+    let s2 = state g.S.Store c.are_entries_recorded.new.conn in
+    let one = c.in_ok-are_true_tables.ensures in
+    let two = c.in_err-are_entries_recorded.ensures in
+    let later = c.are_entries_recorded.ensures.look.later in
+    let clean1 : HasCleanDisk s1 = (let more = later.clean in omega (arith, clean)) in
+    let same : IsSame s0 s1 = one.look.ok clean1 is_open has in
+    let tables = one.says clean1 is_open has (c.are_entries_recorded.ensures.read.later.honest honest) sure order formed c.if-not-branch.false in
+    let amounts : AreAmounts s1.now = subst AreAmounts (sym same.now) (amounts_of s0.now (g.R.Register.view c.args.register.now).content tables) in
+    cause_failed Bool c.in_err-are_entries_recorded.field-0.0 c.from_residual-in_err-are_entries_recorded.result c.from_residual-in_err-are_entries_recorded.ensures.1 s0 s1 s2 one.look.later later
+    (two.blame clean same.is_open (ap (λ (d : Database). d.schema) same.now ∙ has) amounts)
+
+pub returns-clause-blame : goal.returns-clause-blame
+returns-clause-blame g c = λ clean is_open has honest sure order formed.
+    let s0 = state g.S.Store c.args.conn.now in
+    let s1 = state g.S.Store c.are_true_tables.new.conn in
+    let s2 = state g.S.Store c.are_entries_recorded.new.conn in
+    let s3 = state g.S.Store c.is_paid_recorded.new.conn in
+    let one = c.in_ok-are_true_tables.ensures in
+    let two = c.in_ok-are_entries_recorded.ensures in
+    let three = c.is_paid_recorded.ensures in
+    let clean2 : HasCleanDisk s2 = (let more = three.look.later.clean in omega (arith, clean)) in
+    let clean1 : HasCleanDisk s1 = (let more = two.look.later.clean in omega (arith, clean2)) in
+    let looked : HasLooked s0 s2 = look_more tt s0 s1 s2 one.look two.look in
+    let same : IsSame s0 s2 = looked.ok clean2 is_open has in
+    let tables = one.says clean1 is_open has (two.read.later.honest (three.read.later.honest honest)) sure order formed c.if-not-branch.false in
+    let amounts : AreAmounts s2.now = subst AreAmounts (sym same.now) (amounts_of s0.now (g.R.Register.view c.args.register.now).content tables) in
+    cause_on c.is_paid_recorded.result s0 s2 s3 looked.later three.look.later (three.blame clean same.is_open (ap (λ (d : Database). d.schema) same.now ∙ has) amounts)
