@@ -1,18 +1,28 @@
 -- What is read of tables that nobody knows, within a transaction.
-use Rattle.std.proofs.Common.{◌≡◌, inl, inr, refl, ap, arith, ◌∙◌, ℕ, List, [], None, Some, Option, IsTrue, Result, Ok, Err, IfOk, IfErr, OnOk, if◌then◌else◌}
+use Rattle.std.proofs.Common.{◌≡◌, ◌∷◌, inl, inr, refl, ap, arith, ◌∙◌, ℕ, List, [], None, Some, Option, IsTrue, Result, Ok, Err, IfOk, IfErr, OnOk, Vec, codes, false, pos, if◌then◌else◌}
+use Rattle.std.proofs.lemmas.Bool.{both_ways}
+use Rattle.std.specs.declared.alloc.Global.{Global}
 use Rattle.sqlite.specs.Clock.{timed}
-use Rattle.sqlite.specs.Command.TheVariants.{Begin}
+use Rattle.sqlite.specs.Command.TheVariants.{Begin, Select}
+use Rattle.sqlite.specs.Query.{Query}
+use Rattle.sqlite.specs.Term.{col, lit}
+use Rattle.sqlite.specs.declared.types.Value.TheVariants.{Int}
 use Rattle.sqlite.specs.Listing.{understood}
 use Rattle.sqlite.specs.Order.{Row}
 use Rattle.sqlite.specs.Schema.{Schema}
 use Rattle.sqlite.specs.Tree.{Trees}
-use Rattle.sqlite.specs.State.{State, Executes, FailsToQuery, HasCleanDisk, Shown, ShowsRows, Survives}
+use Rattle.sqlite.specs.State.{State, Executes, FailsToQuery, HasCleanDisk, IsMisplaced, Shown, ShowsRows, Survives}
 use Rattle.sqlite.specs.declared.error.Error.{Error}
 use Rattle.sqlite.proofs.Callers.{IsPlain, command_of, runs_as}
 use Rattle.sqlite_schema.specs.declared.command.Returning.{Returning}
 use Rattle.sqlite_tied.specs.Compute.{everything}
 use Rattle.sql_tables.specs.Control.{Begins, begin_text}
+use Rattle.sql_tables.specs.Ends.{ForCause}
 use Rattle.sql_tables.specs.Making.{KeepsCommitted}
+use Rattle.sql_tables.specs.Queries.{plain}
+use Rattle.sql_tables.specs.Schema.{desk_schema}
+use Rattle.sql_tables.specs.Statements.{IsQuery}
+use Rattle.sql_tables.proofs.BlameLemmas.{IsWhole, IsWholeIn, control_caused_in, query_caused}
 use Rattle.sql_tables.proofs.CallLemmas.{later_then}
 use Rattle.sql_tables.proofs.EndLemmas.{execute_fell, execute_opened, later_from, query_fell, query_opened, show_opened}
 use Rattle.desk_opening.specs.Spared.{Spares}
@@ -26,7 +36,23 @@ begin_plain : (schema : Schema) → IsPlain (understood schema begin_text)
 unfolding understood everything
 begin_plain schema = (refl, refl)
 
-begun : (old new : State) (r : Result ℕ Error) → Executes begin_text [] old new r → OnOk r (Begins old new)
+begin_whole : (schema : Schema) → IsWholeIn schema begin_text 0
+unfolding understood everything
+begin_whole schema = record { plain = (refl, refl); whole = refl; width_is = refl }
+
+begin_placed : (s : State) → s.in_transaction ≡ false → (e : Error) → ¬ IsMisplaced s Begin e
+begin_placed s outside e (inl (error, inl within)) = both_ways _ outside within.1
+begin_placed s outside e (inl (error, inr (inl commits, out))) = absurd (let x = commits in cc)
+begin_placed s outside e (inl (error, inr (inr rolls, out))) = absurd (let x = rolls in cc)
+begin_placed s outside e (inr (error, name, inl releases, unnamed)) = absurd (let x = releases in cc)
+begin_placed s outside e (inr (error, name, inr back, unnamed)) = absurd (let x = back in cc)
+
+pub begin_caused : (old new : State) → IsTrue old.is_open → old.in_transaction ≡ false → (r : Result ℕ Error) → Executes begin_text [] old new r → IfErr r (ForCause old new)
+begin_caused old new open' outside r h =
+    let schema = old.now.schema in
+    control_caused_in schema old new refl open' begin_text [] (begin_whole schema) Begin refl (λ none. none) (begin_is schema) (begin_placed old outside) r h
+
+pub begun : (old new : State) (r : Result ℕ Error) → Executes begin_text [] old new r → OnOk r (Begins old new)
 begun old new (Ok count) h =
     let schema = old.now.schema in
     let r = runs_as begin_text [] old new schema refl Begin (begin_is schema) (begin_plain schema) count h in
@@ -85,3 +111,26 @@ spares_then a b c p q = record {
   opened = λ clean now. p.opened (omega (arith, clean, q.later.clean)) (q.opened clean now);
   kept = λ clean now. q.kept clean now ∙ p.kept (omega (arith, clean, q.later.clean)) (q.opened clean now);
 }
+
+-- ---- the versions of the desk's own tables
+
+abbrev pub versions_text : List ℕ
+versions_text = codes "SELECT number FROM version LIMIT 2"
+
+abbrev two : Query
+two = record (plain 10 [] (col 1 0 ∷ [])) { limit = lit (Int (pos 2)) }
+
+versions_is : command_of (understood desk_schema versions_text) ≡ Select (record { lets = []; body = two }) (codes "number" ∷ [])
+unfolding understood everything
+versions_is = refl
+
+versions_whole : IsWhole versions_text 0
+unfolding understood everything
+versions_whole = record { plain = (refl, refl); whole = refl; width_is = refl }
+
+versions_query : IsQuery versions_text
+unfolding understood everything
+versions_query = record { selects = refl; plain = (refl, refl); unlisted = refl }
+
+pub versions_caused : (old new : State) → old.now.schema ≡ desk_schema → IsTrue old.is_open → (r : Result (Vec Row Global) Error) → IfErr r (FailsToQuery versions_text [] old new) → IfErr r (ForCause old new)
+versions_caused old new has open' r h = query_caused old new has open' versions_text [] versions_whole two _ versions_is versions_query.unlisted refl refl refl r h

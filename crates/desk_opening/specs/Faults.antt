@@ -1,5 +1,6 @@
 -- Why a database is not opened, by what failed.
-use Rattle.std.specs.Prelude.{ℕ, Bool, true, false}
+use Rattle.std.specs.Prelude.{◌≡◌, ◌+◌, ◌<◌, ◌^◌, ℕ, Bool, true, false}
+use Rattle.sqlite.specs.State.{State}
 use Rattle.sqlite.specs.declared.error.Error.{Error}
 use Rattle.sqlite.specs.declared.error.Error.TheVariants.{SqliteFailure}
 use Rattle.sqlite.specs.declared.error.ErrorCode.TheVariants.{DatabaseCorrupt, NoRowid, NotADatabase, OutOfMemory, TooBig}
@@ -43,3 +44,7 @@ register_fault_for register.Storage = Storage
 abbrev pub audit_fault_for : AuditFault → OpenFault
 audit_fault_for (Register fault) = register_fault_for fault
 audit_fault_for (Tables error) = fault_for error
+
+-- The device is blamed only where it failed, which the store counts up to the greatest number.
+abbrev pub IsBlamed : State → State → OpenFault → Type 0
+IsBlamed old new fault = fault ≡ Storage → old.faults + 1 < 2 ^ 64 → old.faults < new.faults

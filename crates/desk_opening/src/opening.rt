@@ -1,5 +1,5 @@
 //! The way in.
-ghost use Rattle.std.specs.Prelude.{◌≤◌, IfErr, IfOk, IsTrue};
+ghost use Rattle.std.specs.Prelude.{◌≡◌, ◌⊎◌, ◌≤◌, ◌<◌, IfErr, IfOk, IsTrue};
 ghost use Rattle.sqlite.specs.Files.{file_state, over_files};
 ghost use Rattle.sqlite.specs.Held.{state};
 ghost use Rattle.sqlite.specs.State.{HasCleanDisk};
@@ -7,7 +7,9 @@ ghost use Rattle.sqlite_trees.specs.View.{IsClean};
 ghost use Rattle.sqlite_wal.specs.Files.{image_at};
 ghost use Rattle.memory_register.specs.ListsView.{view_of_lists};
 ghost use Rattle.desk_rules.specs.declared.limits.TheConstants.{MOST_ENTRIES};
+ghost use Rattle.sql_tables.specs.Schema.{desk_schema, no_schema};
 ghost use Rattle.desk_opening.specs.Opened.{Finds, FindsIn, IsHandedBack, IsOpened};
+ghost use Rattle.desk_opening.specs.declared.fault.OpenFault.TheVariants.{Storage};
 
 use crate::fault::{OpenFault, fault_of, fault_of_files};
 use crate::reopening::{give_up, reopen};
@@ -36,6 +38,7 @@ pub fn adopt<S: Alter + Drop>(
     ensures opened { IfOk result (IsOpened S.Store limit) }
     ensures which { IfOk result (λ both. HasCleanDisk (state S.Store both.tables.connection) → Finds (state S.Store conn).committed (state S.Store both.tables.connection).committed (view_of_lists both.memory).content) }
     ensures back { IfErr result (λ e. IsClean (S.Store.view e.1) → IsTrue (S.Store.view e.1).is_open → IsHandedBack (S.Store.view e.1) (state S.Store conn)) }
+    ensures blame { IfErr result (λ e. IsClean (S.Store.view e.1) → IsTrue (state S.Store conn).is_open → ((state S.Store conn).committed.schema ≡ no_schema) ⊎ ((state S.Store conn).committed.schema ≡ desk_schema) → e.0 ≡ Storage → 0 < S.Store.faults e.1) }
 {
     let conn = match reopen(alloc, conn) {
         Ok(conn) => conn,

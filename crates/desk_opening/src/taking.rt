@@ -1,11 +1,14 @@
 //! A database that was opened is made the desk's, or found to be.
-ghost use Rattle.std.specs.Prelude.{◌≡◌, ◌≤◌, IfErr, IfOk, IsTrue, None};
+ghost use Rattle.std.specs.Prelude.{◌≡◌, ◌⊎◌, ◌≤◌, false, IfErr, IfOk, IsTrue, None};
 ghost use Rattle.sqlite.specs.Held.{state};
 ghost use Rattle.sqlite.specs.State.{HasCleanDisk};
 ghost use Rattle.memory_register.specs.ListsView.{view_of_lists};
 ghost use Rattle.desk_rules.specs.declared.limits.TheConstants.{MOST_ENTRIES};
+ghost use Rattle.sql_tables.specs.Calls.{Soundly, tables};
 ghost use Rattle.sql_tables.specs.Ends.{IsLater};
 ghost use Rattle.sql_tables.specs.Making.{KeepsCommitted};
+ghost use Rattle.sql_tables.specs.Schema.{desk_schema, no_schema};
+ghost use Rattle.desk_opening.specs.Faults.{IsBlamed};
 ghost use Rattle.desk_opening.specs.Opened.{Finds, IsOpened, StandsOpen};
 ghost use Rattle.desk_opening.specs.Spared.{Spares};
 
@@ -20,7 +23,8 @@ use std::alloc::Global;
 
 /// Why a database that is not the desk's, in this version, is refused.
 fn refusal<S: Alter>(conn: &mut Connection<S>) -> OpenFault
-    ensures { Spares (state S.Store conn.old) (state S.Store conn.new) }
+    ensures spares { Spares (state S.Store conn.old) (state S.Store conn.new) }
+    ensures blame { Soundly S.Store conn.old conn.new ((state S.Store conn.old).in_transaction ≡ false → (state S.Store conn.old).step_limit ≡ None → IsBlamed (state S.Store conn.old) (state S.Store conn.new) result) }
 {
     match says_other_version(conn) {
         Ok(true) => OpenFault::OtherVersion,
@@ -38,11 +42,13 @@ fn make<S: Alter + Drop>(
     requires limit { limit ≤ MOST_ENTRIES }
     requires unlimited { (state S.Store conn).step_limit ≡ None }
     requires open { HasCleanDisk (state S.Store conn) → StandsOpen (state S.Store conn) }
+    requires empty { (tables S.Store conn).schema ≡ no_schema }
     ensures opened { IfOk result (IsOpened S.Store limit) }
     ensures which { IfOk result (λ both. HasCleanDisk (state S.Store both.tables.connection) → Finds (state S.Store conn).committed (state S.Store both.tables.connection).committed (view_of_lists both.memory).content) }
     ensures later { IfOk result (λ both. IsLater (state S.Store conn) (state S.Store both.tables.connection)) }
     ensures handed { IfErr result (λ e. IsLater (state S.Store conn) (state S.Store e.1)) }
     ensures kept { IfErr result (λ e. HasCleanDisk (state S.Store e.1) → KeepsCommitted (state S.Store conn) (state S.Store e.1)) }
+    ensures blame { IfErr result (λ e. HasCleanDisk (state S.Store e.1) → IsBlamed (state S.Store conn) (state S.Store e.1) e.0) }
 {
     match SqlRegister::new(conn, limit) {
         Ok(tables) => Ok(MirroredRegister::new(ListRegister::new(alloc, limit), tables)),
@@ -65,6 +71,7 @@ fn find<S: Alter + Drop, P: Progress>(
     ensures later { IfOk result (λ both. IsLater (state S.Store conn) (state S.Store both.tables.connection)) }
     ensures handed { IfErr result (λ e. IsLater (state S.Store conn) (state S.Store e.1)) }
     ensures kept { IfErr result (λ e. HasCleanDisk (state S.Store e.1) → KeepsCommitted (state S.Store conn) (state S.Store e.1)) }
+    ensures blame { IfErr result (λ e. HasCleanDisk (state S.Store e.1) → (tables S.Store conn).schema ≡ desk_schema → IsBlamed (state S.Store conn) (state S.Store e.1) e.0) }
 {
     let mut memory = ListRegister::new(alloc, limit);
     match audit(alloc, &mut conn, &mut memory, progress) {
@@ -98,6 +105,7 @@ pub fn take_over<S: Alter + Drop, P: Progress>(
     ensures later { IfOk result (λ both. IsLater (state S.Store conn) (state S.Store both.tables.connection)) }
     ensures handed { IfErr result (λ e. IsLater (state S.Store conn) (state S.Store e.1)) }
     ensures kept { IfErr result (λ e. HasCleanDisk (state S.Store e.1) → KeepsCommitted (state S.Store conn) (state S.Store e.1)) }
+    ensures blame { IfErr result (λ e. HasCleanDisk (state S.Store e.1) → ((tables S.Store conn).schema ≡ no_schema) ⊎ ((tables S.Store conn).schema ≡ desk_schema) → IsBlamed (state S.Store conn) (state S.Store e.1) e.0) }
 {
     if has_no_table(&conn) {
         make(alloc, conn, limit)

@@ -1,7 +1,9 @@
 //! Whether a database that is not the desk's tells the version of another.
-ghost use Rattle.std.specs.Prelude.{IsTrue, OnOk};
+ghost use Rattle.std.specs.Prelude.{◌≡◌, false, Err, IfErr, IsTrue, OnOk};
 ghost use Rattle.sqlite.specs.Held.{state};
 ghost use Rattle.sqlite.specs.State.{HasCleanDisk};
+ghost use Rattle.sql_tables.specs.Calls.{FailsForCause, Soundly};
+ghost use Rattle.sql_tables.specs.Control.{Begins};
 ghost use Rattle.desk_opening.specs.Spared.{Spares};
 
 use sql_tables::version::VERSION;
@@ -13,13 +15,16 @@ use sqlite_schema::names::same_name;
 fn begin<S: Alter>(conn: &mut Connection<S>) -> Result<usize, Error>
     ensures inside { HasCleanDisk (state S.Store conn.new) → OnOk result (IsTrue (state S.Store conn.new).in_transaction) }
     ensures spares { Spares (state S.Store conn.old) (state S.Store conn.new) }
+    ensures same { HasCleanDisk (state S.Store conn.new) → OnOk result (Begins (state S.Store conn.old) (state S.Store conn.new)) }
+    ensures blame { HasCleanDisk (state S.Store conn.new) → IsTrue (state S.Store conn.old).is_open → (state S.Store conn.old).in_transaction ≡ false → FailsForCause S.Store conn.old conn.new result }
 {
     conn.execute("BEGIN", &[])
 }
 
 /// The versions that a table `version` says, two of them at most.
 fn versions<S: Alter>(conn: &mut Connection<S>) -> Result<Vec<Row>, Error>
-    ensures { (HasCleanDisk (state S.Store conn.old) → IsTrue (state S.Store conn.old).in_transaction) → Spares (state S.Store conn.old) (state S.Store conn.new) }
+    ensures spares { (HasCleanDisk (state S.Store conn.old) → IsTrue (state S.Store conn.old).in_transaction) → Spares (state S.Store conn.old) (state S.Store conn.new) }
+    ensures blame { Soundly S.Store conn.old conn.new (FailsForCause S.Store conn.old conn.new result) }
 {
     conn.query_all("SELECT number FROM version LIMIT 2", &[])
 }
@@ -59,7 +64,9 @@ fn are_other(rows: &[Row]) -> bool {
 }
 
 /// What shown versions come to, or why none is shown.
-fn told(shown: Result<Vec<Row>, Error>) -> Result<bool, Error> {
+fn told(shown: Result<Vec<Row>, Error>) -> Result<bool, Error>
+    ensures { IfErr result (λ e. shown ≡ Err e) }
+{
     match shown {
         Ok(rows) => Ok(are_other(&rows)),
         Err(error) => {
@@ -75,7 +82,8 @@ fn told(shown: Result<Vec<Row>, Error>) -> Result<bool, Error> {
 /// Whether a database has a table `version` with one row, which says another version. Nothing is committed; a transaction may
 /// be left open. One that has no such table says none.
 pub fn says_other_version<S: Alter>(conn: &mut Connection<S>) -> Result<bool, Error>
-    ensures { Spares (state S.Store conn.old) (state S.Store conn.new) }
+    ensures spares { Spares (state S.Store conn.old) (state S.Store conn.new) }
+    ensures blame { Soundly S.Store conn.old conn.new ((state S.Store conn.old).in_transaction ≡ false → FailsForCause S.Store conn.old conn.new result) }
 {
     if !has_versions(conn) {
         return Ok(false);
