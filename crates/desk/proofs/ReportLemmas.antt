@@ -12,7 +12,7 @@ use Rattle.desk_book.specs.Asked.{Asked}
 use Rattle.desk_book.specs.DeskValue.{DeskValue}
 use Rattle.desk_book.specs.Held.{Holds}
 use Rattle.desk_engine.specs.Ready.{KeepsFormed}
-use Rattle.desk_book.specs.WrittenTo.{StaysOpen, WritesAsked, reply_with}
+use Rattle.desk_book.specs.WrittenTo.{WritesAsked, leaves_closed, reply_with}
 use Rattle.desk_book.specs.declared.answers.head.Head.{Head}
 use Rattle.desk_book.specs.declared.fault.ToFault.{ToFault}
 use Rattle.desk_book.specs.declared.fault.ToFault.TheVariants as to
@@ -21,7 +21,7 @@ use Rattle.desk.specs.Left.{AreLeft, IsLeft, PassesOn}
 use Rattle.desk.specs.PlayAnswer.{AreHeld, KeptBy}
 use Rattle.desk.specs.ReportAnswer.{IsOpenReportAnswer, IsReportFrom, IsReportTold, LeavesBooks, ReportsFrom, told_answer, told_from, told_front, told_unclosed}
 use Rattle.desk.specs.Status.{Ends, EndsBy, failure_line}
-use Rattle.desk.specs.declared.status.Failure.TheVariants.{Memory, Storage}
+use Rattle.desk.specs.declared.status.Failure.TheVariants.{Closed, Memory, Storage}
 use Rattle.desk.specs.declared.status.Status.{Status}
 use Rattle.desk.specs.declared.status.Status.TheVariants.{Fault}
 
@@ -31,10 +31,12 @@ module _ (before mid after : Option (List ℕ)) (limit : ℕ) (books : Books) (a
   told_status (Ok head) status stays writes told = told_answer (reply_with head writes.text) writes.is_answer told.0 (Appends-trans before mid after writes.text (codes "\n") writes.written told.1)
   told_status (Err to.WriteFailed) status stays writes told = absurd told
   told_status (Err to.Memory) status stays writes told =
-      told_front writes.text writes.front Memory (inl refl) told.0 (Appends-trans before mid after writes.text (codes "\n" ++ (failure_line Memory ++ codes "\n")) writes.written told.1)
+      told_front writes.text writes.front Memory (inl (inl refl)) told.0 (Appends-trans before mid after writes.text (codes "\n" ++ (failure_line Memory ++ codes "\n")) writes.written told.1)
   told_status (Err to.Storage) status stays writes told =
-      told_front writes.text writes.front Storage (inr refl) told.0 (Appends-trans before mid after writes.text (codes "\n" ++ (failure_line Storage ++ codes "\n")) writes.written told.1)
+      told_front writes.text writes.front Storage (inl (inr refl)) told.0 (Appends-trans before mid after writes.text (codes "\n" ++ (failure_line Storage ++ codes "\n")) writes.written told.1)
   told_status (Err to.Closed) status stays writes told = absurd (stays refl)
+  told_status (Err to.Lost) status stays writes told =
+      told_front writes.text writes.front Closed (inr refl) told.0 (Appends-trans before mid after writes.text (codes "\n" ++ (failure_line Closed ++ codes "\n")) writes.written told.1)
 
   -- an answer was written, or a front of one, and what is told behind it
   pub told_written : {E : Type 0} (r : Result Status E) (written : Result Head ToFault) → written ≢ Err to.Closed → WritesAsked limit books asked written before mid → IfOk r (λ status. IsReportTold written status (Appends mid after))
@@ -43,7 +45,7 @@ module _ (before mid after : Option (List ℕ)) (limit : ℕ) (books : Books) (a
   told_written (Err e) written stays writes told = tt
 
 -- what is told without a fault is an answer, behind which the desk is open
-left_open : {R : Type 0} (view : R → View) (now : DeskValue R) (books : Books) (written : Result Head ToFault) (status : Status) (P : List ℕ → Type 0) → StaysOpen written now.is_closed → Holds now.is_closed (view now.register) books → IsReportTold written status P
+left_open : {R : Type 0} (view : R → View) (now : DeskValue R) (books : Books) (written : Result Head ToFault) (status : Status) (P : List ℕ → Type 0) → now.is_closed ≡ leaves_closed written → Holds now.is_closed (view now.register) books → IsReportTold written status P
     → status ≢ Fault → IsLeft now.is_closed (view now.register) false books
 left_open view now books (Ok head) status P stays holds told none =
     let K : Bool → Type 0 = λ b. Holds b (view now.register) books in
@@ -52,8 +54,9 @@ left_open view now books (Err to.WriteFailed) status P stays holds told none = a
 left_open view now books (Err to.Memory) status P stays holds told none = absurd (none told.0)
 left_open view now books (Err to.Storage) status P stays holds told none = absurd (none told.0)
 left_open view now books (Err to.Closed) status P stays holds told none = absurd (none told.0)
+left_open view now books (Err to.Lost) status P stays holds told none = absurd (none told.0)
 
-pub left_written : {R E : Type 0} (view : R → View) (now : DeskValue R) (books : Books) (r : Result Status E) (written : Result Head ToFault) (P : List ℕ → Type 0) → StaysOpen written now.is_closed → Holds now.is_closed (view now.register) books
+pub left_written : {R E : Type 0} (view : R → View) (now : DeskValue R) (books : Books) (r : Result Status E) (written : Result Head ToFault) (P : List ℕ → Type 0) → now.is_closed ≡ leaves_closed written → Holds now.is_closed (view now.register) books
     → IfOk r (λ status. IsReportTold written status P) → IfOk r (λ status. status ≢ Fault → IsLeft now.is_closed (view now.register) false books)
 left_written view now books (Ok status) written P stays holds told = left_open view now books written status P stays holds told
 left_written view now books (Err e) written P stays holds told = tt

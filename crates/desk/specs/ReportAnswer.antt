@@ -1,5 +1,5 @@
 -- What is told of what a desk holds: `desk holdings` and `desk sums`.
-use Rattle.std.specs.Prelude.{◌≡◌, ◌≢◌, ◌==◌, ℕ, Bool, true, false, List, [], ◌++◌, Option, Some, None, Result, Ok, Err, IfOk, codes, if◌then◌else◌}
+use Rattle.std.specs.Prelude.{◌≡◌, ◌≢◌, ◌⊎◌, ◌==◌, ℕ, Bool, true, false, List, [], ◌++◌, Option, Some, None, Result, Ok, Err, IfOk, codes, if◌then◌else◌}
 use Rattle.sqlite_disk.specs.declared.Disk.{Ghosts}
 use Rattle.sqlite_disk.specs.declared.Files.{Files}
 use Rattle.desk_rules.specs.Books.{Books}
@@ -44,11 +44,16 @@ IsReportTold (Err to.WriteFailed) status IsPrinted = ⊥
 IsReportTold (Err to.Memory) status IsPrinted = IsBrokenOff Memory status IsPrinted
 IsReportTold (Err to.Storage) status IsPrinted = IsBrokenOff Storage status IsPrinted
 IsReportTold (Err to.Closed) status IsPrinted = IsBrokenOff Closed status IsPrinted
+IsReportTold (Err to.Lost) status IsPrinted = IsBrokenOff Closed status IsPrinted
+
+-- why an answer ends before its end
+abbrev pub IsBreak : Failure → Type 0
+IsBreak failure = IsMemoryOr Storage failure ⊎ (failure ≡ Closed)
 
 -- The whole answer by these books was printed, in a line; or a front of it, and why it ends there in a line behind it.
 pub data IsReportFrom (limit : ℕ) (books : Books) (asked : Asked) (status : Status) (IsPrinted : List ℕ → Type 0) : Type 0 where
   told_answer : (reply : Reply) → Step limit books asked (Ok reply) books → status ≡ status_of_answer reply.status → IsPrinted (reply.text ++ codes "\n") → IsReportFrom limit books asked status IsPrinted
-  told_front : (front : List ℕ) → IsFrontOf limit books asked front → (failure : Failure) → IsMemoryOr Storage failure → status ≡ Fault → IsPrinted (front ++ (codes "\n" ++ (failure_line failure ++ codes "\n")))
+  told_front : (front : List ℕ) → IsFrontOf limit books asked front → (failure : Failure) → IsBreak failure → status ≡ Fault → IsPrinted (front ++ (codes "\n" ++ (failure_line failure ++ codes "\n")))
       → IsReportFrom limit books asked status IsPrinted
 
 -- Whichever of these books a desk holds, the question is answered so by it, and it is left with them; where that tells no fault it is

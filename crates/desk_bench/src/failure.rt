@@ -82,7 +82,7 @@ impl From<ToFault> for Failure {
         match fault {
             ToFault::WriteFailed => Failure::Stream,
             ToFault::Memory => Failure::Memory,
-            ToFault::Storage | ToFault::Closed => Failure::Storage,
+            ToFault::Storage | ToFault::Closed | ToFault::Lost => Failure::Storage,
         }
     }
 }

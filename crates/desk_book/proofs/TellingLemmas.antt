@@ -1,6 +1,6 @@
 -- Answers that are written straight to a writer: what was read by then, what was written, and what is left of the register.
-use Rattle.std.proofs.Common.{◌≡◌, ℕ, Bool, List, [], Option, Some, None, refl, sym, subst}
-use Rattle.std.specs.Prelude.{Result, Ok, Err, IfSome, IsSome}
+use Rattle.std.proofs.Common.{◌≡◌, ◌∙◌, true≢false, ℕ, Bool, true, false, List, [], Option, Some, None, refl, sym, subst}
+use Rattle.std.specs.Prelude.{Result, Ok, Err, IfSome, IsSome, OnOk}
 use Rattle.std.specs.Result.{IsErrAnd}
 use Rattle.desk_rules.specs.declared.answers.reply.Reply.{Reply}
 use Rattle.desk_rules.specs.Books.{Books}
@@ -11,6 +11,7 @@ use Rattle.desk_register.specs.View.{HasRead, IfTrusted, IsLater, View, IsRead}
 use Rattle.desk_engine.specs.Applied.{Keeps}
 use Rattle.desk_register.specs.declared.fault.WalkFault.{WalkFault}
 use Rattle.desk_register.specs.declared.fault.WalkFault.TheVariants as walks
+use Rattle.desk_msg.specs.declared.writing.statement_row.SinkFault.TheVariants as sinks
 use Rattle.desk_register.specs.Ends.{at_register, broken_off}
 use Rattle.desk_register.proofs.ReadLemmas.{held_so}
 use Rattle.desk_register.proofs.ReadingLemmas.{broke_off, read_on, read_so}
@@ -22,9 +23,9 @@ use Rattle.desk_book.specs.Held.{Holds}
 use Rattle.desk_engine.specs.Ready.{KeepsFormed}
 use Rattle.desk_book.specs.RowByRow.{EndsWriting, IsReported, told_of_walk}
 use Rattle.desk_book.specs.Task.{IsHoldingsTask}
-use Rattle.desk_book.specs.WrittenTo.{Writes, WritesAsked}
+use Rattle.desk_book.specs.WrittenTo.{Writes, WritesAsked, leaves_closed}
 use Rattle.desk_book.specs.declared.fault.ToFault.{ToFault}
-use Rattle.desk_book.specs.declared.fault.ToFault.TheVariants.{WriteFailed, Memory, Storage, Closed}
+use Rattle.desk_book.specs.declared.fault.ToFault.TheVariants.{WriteFailed, Memory, Storage, Closed, Lost}
 use Rattle.desk_book.specs.declared.answers.head.Head.{Head}
 use Rattle.desk_book.specs.declared.requests.task.Task.TheVariants.{Holdings, Totals}
 use Rattle.desk_book.specs.declared.answers.telling.Report.TheVariants as reports
@@ -63,6 +64,15 @@ writes_as P Q (Err WriteFailed) before after to w = tt
 writes_as P Q (Err Closed) before after to w = w
 writes_as P Q (Err Memory) before after to w = record { text = w.text; written = w.written; front = λ some. (let f = w.front some in (f.0, f.1, to _ f.2)) }
 writes_as P Q (Err Storage) before after to w = record { text = w.text; written = w.written; front = λ some. (let f = w.front some in (f.0, f.1, to _ f.2)) }
+writes_as P Q (Err Lost) before after to w = record { text = w.text; written = w.written; front = λ some. (let f = w.front some in (f.0, f.1, to _ f.2)) }
+
+-- A register is lost by its own faults alone, after which a front of an answer was written.
+pub lost_front : (P : Reply → Type 0) (r : Result Head WalkFault) (is_lost : Bool) (before after : Option (List ℕ)) → is_lost ≡ true → OnOk (at_register r) (is_lost ≡ false) → Writes P (told_of_walk r) before after → Writes P (Err Lost) before after
+lost_front P (Ok head) is_lost before after lost ok w = absurd (true≢false (sym lost ∙ ok))
+lost_front P (Err (walks.Sink sinks.Write)) is_lost before after lost ok w = absurd (true≢false (sym lost ∙ ok))
+lost_front P (Err (walks.Sink sinks.Memory)) is_lost before after lost ok w = absurd (true≢false (sym lost ∙ ok))
+lost_front P (Err walks.Memory) is_lost before after lost ok w = w
+lost_front P (Err walks.Storage) is_lost before after lost ok w = w
 
 -- A call of the register failed before anything was written.
 nothing_then : (P : Reply → Type 0) (fault : Fault) (before : Option (List ℕ)) → Writes P (told_of_walk (Err (broken_off fault))) before before
@@ -74,8 +84,8 @@ nothing_written P fault (Ok head) before is = absurd is
 nothing_written P fault (Err broken) before is = subst (λ z. Writes P (told_of_walk (Err z)) before before) (sym is) (nothing_then P fault before)
 
 -- What the desk holds afterwards.
-pub holds_after_writing : (r : Result Head ToFault) (is_lost : Bool) (old new : View) → EndsWriting r is_lost old new → (books : Books) → new.is_honest → KeepsFormed old.room books old.content → Holds is_lost new books
-holds_after_writing r is_lost old new e books honest keeps =
+pub holds_after_writing : (r : Result Head ToFault) (old new : View) → EndsWriting r old new → (books : Books) → new.is_honest → KeepsFormed old.room books old.content → Holds (leaves_closed r) new books
+holds_after_writing r old new e books honest keeps =
     λ is. record { tables = keeps_at old new books (e.same is honest) e.later.room keeps.tables; formed = keeps.formed }
 
 -- the bytes that a participant asks with name an account, or none

@@ -9,7 +9,7 @@ use Rattle.desk_book.specs.declared.fault.ToFault.TheVariants.{WriteFailed, Clos
 use Rattle.desk_book.specs.declared.answers.head.Head.{Head}
 use Rattle.desk_book.specs.Answered.{BlamesRequest, says_closed}
 use Rattle.desk_book.specs.DeskValue.{DeskValue}
-use Rattle.desk_book.specs.WrittenTo.{BlamesDevice, StaysOpen}
+use Rattle.desk_book.specs.WrittenTo.{BlamesDevice, leaves_closed}
 
 -- What contracts see of the register of a desk is told by `view`.
 module _ {R : Type 0} (view : R → View) (is_in_memory : Bool) where
@@ -36,6 +36,7 @@ module _ {R : Type 0} (view : R → View) (is_in_memory : Bool) where
     -- who finds the desk closed is told so, and no other is; nothing is written then
     pub closed : result ≡ Err Closed ↔ old.is_closed ≡ true
     pub untouched : old.is_closed ≡ true → after ≡ before
-    pub stays : StaysOpen result new.is_closed
+    -- that it is closed is told where it is, and nowhere else
+    pub told : new.is_closed ≡ leaves_closed result
     pub blame : BlamesDevice result (view old.register) (view new.register)
     pub unwritten : result ≡ Err WriteFailed → may_fail ≡ true

@@ -1,5 +1,5 @@
 -- How a text comes about that is written row by row, as it is read from a register. Only private contracts speak of it.
-use Rattle.std.specs.Prelude.{◌≡◌, ◌≢◌, ◌⊎◌, ℕ, Bool, true, false, if◌then◌else◌, List, ◌++◌, map, Option, Result, Ok, Err, OnErr, OnOk}
+use Rattle.std.specs.Prelude.{◌≡◌, ◌≢◌, ◌⊎◌, ℕ, Bool, true, false, List, ◌++◌, map, Option, Result, Ok, Err, OnErr, OnOk}
 use Rattle.std.specs.Io.KnownBytes.{Appends}
 use Rattle.serde_json.specs.Written.{comma_if, compact_text}
 use Rattle.desk_codes.specs.declared.currency.Ccy.{Ccy}
@@ -17,16 +17,15 @@ use Rattle.desk_register.specs.declared.fault.WalkFault.TheVariants as walks
 use Rattle.desk_book.specs.Answered.{IsAnswer}
 use Rattle.desk_book.specs.Sums.{cash_data, rows_text, security_data}
 use Rattle.desk_book.specs.Totals.{AreCashTotals, AreTotals, IsCashTotal, IsTotal}
-use Rattle.desk_book.specs.WrittenTo.{BlamesDevice, StaysOpen, reply_with}
+use Rattle.desk_book.specs.WrittenTo.{BlamesDevice, leaves_closed, reply_with}
 use Rattle.desk_book.specs.declared.fault.Fault.{Fault as DeskFault}
 use Rattle.desk_book.specs.declared.fault.Fault.TheVariants as desk
 use Rattle.desk_book.specs.declared.fault.ToFault.{ToFault}
-use Rattle.desk_book.specs.declared.fault.ToFault.TheVariants.{WriteFailed, Memory, Storage, Closed}
+use Rattle.desk_book.specs.declared.fault.ToFault.TheVariants.{WriteFailed, Memory, Storage, Closed, Lost}
 use Rattle.desk_book.specs.declared.requests.task.Task.{Task}
 use Rattle.desk_book.specs.declared.requests.task.Task.TheVariants as tasks
 use Rattle.desk_book.specs.declared.answers.telling.Report.{Report}
 use Rattle.desk_book.specs.declared.answers.telling.Report.TheVariants.{Holdings, Totals}
-use Rattle.desk_book.specs.declared.answers.telling.Written.{Written}
 use Rattle.desk_book.specs.declared.answers.head.Head.{Head}
 use Rattle.desk_book.specs.declared.answers.total.CashTotal.{CashTotal}
 use Rattle.desk_book.specs.declared.answers.total.SecurityTotal.{SecurityTotal}
@@ -130,24 +129,20 @@ pub record Leaves {X : Type 0} (result : Result X Fault) (is_lost : Bool) (old n
   pub later : IsLater old new
 
 -- How it ends at an open desk's register that an answer was written: unless the register is lost, it shows what it held.
-pub record EndsWriting (result : Result Head ToFault) (is_lost : Bool) (old new : View) : Type 0 where
-  pub stage : is_lost ≡ false → new.stage ≡ Idle
-  pub sure : is_lost ≡ false → new.is_honest → new.is_sure
-  pub device : is_lost ≡ false → new.device.is_honest → new.device.is_sure
-  pub same : is_lost ≡ false → new.is_honest → new.content ≡ old.content
-  pub stays : StaysOpen result is_lost
+pub record EndsWriting (result : Result Head ToFault) (old new : View) : Type 0 where
+  pub stage : leaves_closed result ≡ false → new.stage ≡ Idle
+  pub sure : leaves_closed result ≡ false → new.is_honest → new.is_sure
+  pub device : leaves_closed result ≡ false → new.device.is_honest → new.device.is_sure
+  pub same : leaves_closed result ≡ false → new.is_honest → new.content ≡ old.content
   pub asked : result ≢ Err Closed
   pub later : IsLater old new
   pub blame : BlamesDevice result old new
 
--- The answer whose text was written in memory, where a write fails for want of memory alone. Where the register is lost, the
--- desk is closed.
-abbrev pub told_in_memory : Result Head ToFault → List ℕ → Result Reply DeskFault
-told_in_memory (Ok head) text = Ok (reply_with head text)
-told_in_memory (Err WriteFailed) text = Err desk.Memory
-told_in_memory (Err Memory) text = Err desk.Memory
-told_in_memory (Err Storage) text = Err desk.Storage
-told_in_memory (Err Closed) text = Err desk.Closed
-
-abbrev pub answer_in_memory : Written → List ℕ → Result Reply DeskFault
-answer_in_memory written text = if written.is_lost then Err desk.Closed else told_in_memory written.result text
+-- The answer whose text was written in memory, where a write fails for want of memory alone.
+abbrev pub answer_in_memory : Result Head ToFault → List ℕ → Result Reply DeskFault
+answer_in_memory (Ok head) text = Ok (reply_with head text)
+answer_in_memory (Err WriteFailed) text = Err desk.Memory
+answer_in_memory (Err Memory) text = Err desk.Memory
+answer_in_memory (Err Storage) text = Err desk.Storage
+answer_in_memory (Err Closed) text = Err desk.Closed
+answer_in_memory (Err Lost) text = Err desk.Closed

@@ -1,5 +1,5 @@
 -- What is said of an answer whose text is written straight to a writer.
-use Rattle.std.specs.Prelude.{◌≡◌, ◌≢◌, ◌<◌, ℕ, Bool, false, List, [], ◌++◌, Option, Result, Ok, Err}
+use Rattle.std.specs.Prelude.{◌≡◌, ◌≢◌, ◌<◌, ℕ, Bool, true, false, List, [], ◌++◌, Option, Result, Ok, Err}
 use Rattle.std.specs.Io.KnownBytes.{Appends}
 use Rattle.desk_rules.specs.declared.answers.reply.Reply.{Reply}
 use Rattle.desk_rules.specs.Books.{Books}
@@ -7,7 +7,7 @@ use Rattle.desk_register.specs.View.{View, IfCounted}
 use Rattle.desk_book.specs.Answered.{Step}
 use Rattle.desk_book.specs.Asked.{Asked}
 use Rattle.desk_book.specs.declared.fault.ToFault.{ToFault}
-use Rattle.desk_book.specs.declared.fault.ToFault.TheVariants.{WriteFailed, Storage, Closed}
+use Rattle.desk_book.specs.declared.fault.ToFault.TheVariants.{WriteFailed, Storage, Closed, Lost}
 use Rattle.desk_book.specs.declared.answers.head.Head.{Head}
 
 -- the reply of a head and a text
@@ -39,11 +39,11 @@ Writes IsAnswer (Err fault) before after = WritesFront IsAnswer before after
 abbrev pub WritesAsked : ℕ → Books → Asked → Result Head ToFault → Option (List ℕ) → Option (List ℕ) → Type 0
 WritesAsked limit books asked result before after = Writes (λ reply. Step limit books asked (Ok reply) books) result before after
 
--- After an answer, and where the writer failed, the desk is open, as it was.
-abbrev pub StaysOpen : Result Head ToFault → Bool → Type 0
-StaysOpen (Ok head) is_closed = is_closed ≡ false
-StaysOpen (Err WriteFailed) is_closed = is_closed ≡ false
-StaysOpen (Err fault) is_closed = Unit {0}
+-- it is told so that the desk is closed: it was, or is from then on
+abbrev pub leaves_closed : Result Head ToFault → Bool
+leaves_closed (Err Closed) = true
+leaves_closed (Err Lost) = true
+leaves_closed result = false
 
 -- The device is blamed where it failed: the count of its failures has grown after a storage fault.
 pub record BlamesDevice (result : Result Head ToFault) (old new : View) : Type 0 where

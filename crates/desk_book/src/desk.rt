@@ -12,7 +12,7 @@ ghost use Rattle.desk_book.specs.Left.{AnswersRequest, EndsReport, LeavesDesk};
 ghost use Rattle.desk_book.specs.Answering.{IsPerformed};
 ghost use Rattle.desk_book.specs.RowByRow.{IsReported};
 ghost use Rattle.desk_book.specs.Task.{IsFormed};
-ghost use Rattle.desk_book.specs.WrittenTo.{Writes, WritesAsked};
+ghost use Rattle.desk_book.specs.WrittenTo.{Writes, WritesAsked, leaves_closed};
 
 use crate::answers::answering::answer;
 use crate::answers::head::Head;
@@ -95,8 +95,9 @@ impl<R: Register> Desk<R> {
     /// its own, or none) is written.
     ///
     /// WriteFailed: the writer failed, or took no byte. Memory: a growth of memory was refused. Storage: the device failed.
-    /// After these two what was written, if anything, is a front of an answer, and where it cannot be shown that the tables
-    /// are as before, the desk is closed from then on. Closed: the desk was closed, and nothing was written.
+    /// Lost: one of these two, and it cannot be shown that the tables are as before, so that the desk is closed from then on.
+    /// After these three what was written, if anything, is a front of an answer. Closed: the desk was closed, and nothing was
+    /// written.
     pub fn holdings_to<W: Sink>(
         &mut self,
         alloc: Global,
@@ -145,8 +146,8 @@ impl<R: Register> Desk<R> {
             return Err(ToFault::Closed);
         }
         let written = tell_to(alloc, &mut self.register, report, writer);
-        self.is_closed = written.is_lost;
-        written.result
+        self.is_closed = is_closed_after(&written);
+        written
     }
 
     /// Answers requests, one after another. Room for the answers is taken first: where there is none, nothing was
@@ -193,6 +194,16 @@ impl<R: Register> Desk<R> {
         let answer = answer(alloc, &mut self.register, task);
         self.is_closed = is_closed_by(&answer);
         answer
+    }
+}
+
+/// Whether an answer that was written, or was not, says that the desk is closed.
+fn is_closed_after(written: &Result<Head, ToFault>) -> bool
+    ensures { result ≡ leaves_closed written.now }
+{
+    match written {
+        Err(ToFault::Closed | ToFault::Lost) => true,
+        _ => false,
     }
 }
 

@@ -57,7 +57,8 @@ impl Fault {
     }
 }
 
-/// Why an answer was not written to its end. No table has changed, where the desk is open after it.
+/// Why an answer was not written to its end. The desk is closed after `Closed` and `Lost`, and after no other; no table of one that
+/// is open has changed.
 #[derive(Clone, Copy, Debug, PartialEq, Eq, Error)]
 pub enum ToFault {
     /// The writer failed, or took no byte. Nothing is said of what was written.
@@ -72,6 +73,10 @@ pub enum ToFault {
     /// 62: the desk was closed when it was asked. Nothing was written.
     #[error("fault 62")]
     Closed,
+    /// 62: a growth of memory was refused or the device failed, and it cannot be shown that the tables are as before: the desk is
+    /// closed from then on. What was written, if anything, is a front of the answer.
+    #[error("fault 62")]
+    Lost,
 }
 
 impl From<WalkFault> for ToFault {

@@ -3,7 +3,7 @@ ghost use Rattle.std.specs.Prelude.{◌≡◌, ◌≢◌, true, false, Err, IfOk
 ghost use Rattle.std.specs.Io.KnownBytes.{Appends};
 ghost use Rattle.desk_register.specs.View.{IsLater};
 ghost use Rattle.desk_book.specs.Held.{Holds, IfHolds};
-ghost use Rattle.desk_book.specs.WrittenTo.{StaysOpen, WritesAsked};
+ghost use Rattle.desk_book.specs.WrittenTo.{WritesAsked, leaves_closed};
 ghost use Rattle.desk.specs.Left.{IsLeft};
 ghost use Rattle.desk.specs.PlayAnswer.{AreHeld};
 ghost use Rattle.desk.specs.ReportAnswer.{asked_for, status_of_answer, IsBrokenOff, IsReportTold, ReportsFrom};
@@ -48,7 +48,7 @@ fn write_report<D: Register + Drop, W: Sink>(
     ensures keeps { IfHolds D.view desk.old desk.new (Holds desk.new.is_closed (D.view desk.new.register)) }
     ensures later { IsLater (D.view desk.old.register) (D.view desk.new.register) }
     ensures open { desk.old.is_closed ≡ false → result ≢ Err ToFault.Closed }
-    ensures stays { StaysOpen result desk.new.is_closed }
+    ensures told { desk.new.is_closed ≡ leaves_closed result }
     ensures unwritten { result ≡ Err ToFault.WriteFailed → W.may_fail ≡ true }
 {
     match owner {
@@ -71,7 +71,7 @@ fn tell_written<W: Sink>(written: Result<Head, ToFault>, writer: &mut W) -> io::
         Err(ToFault::WriteFailed) => Err(io::Error::from(io::ErrorKind::WriteZero)),
         Err(ToFault::Memory) => break_off(Failure::Memory, writer),
         Err(ToFault::Storage) => break_off(Failure::Storage, writer),
-        Err(ToFault::Closed) => break_off(Failure::Closed, writer),
+        Err(ToFault::Closed | ToFault::Lost) => break_off(Failure::Closed, writer),
     }
 }
 

@@ -12,8 +12,9 @@ ghost use Rattle.desk_book.specs.Task.{IsFormed};
 ghost use Rattle.desk_engine.specs.Ready.{IsReady, KeepsFormed};
 ghost use Rattle.desk_book.specs.Answering.{Answers, Decides, Ends, IsPut, AnswersFault, fault_of_register, fault_of_failure};
 
+use crate::answers::head::Head;
 use crate::answers::questions::{sent_message, status};
-use crate::answers::telling::{Report, Written, tell_to};
+use crate::answers::telling::{Report, tell_to};
 use crate::fault::{Fault, ToFault};
 use crate::requests::task::Task;
 use desk_codes::{Bic, Reference};
@@ -171,17 +172,14 @@ fn tell_report<R: Register>(alloc: Global, register: &mut R, report: Report) -> 
 }
 
 /// The answer whose text was written in memory, where a write fails for want of memory alone.
-fn answer_in_memory(written: Written, text: Vec<u8>) -> Result<Reply, Fault>
+fn answer_in_memory(written: Result<Head, ToFault>, text: Vec<u8>) -> Result<Reply, Fault>
     ensures { result ≡ answer_in_memory written text.items }
 {
-    if written.is_lost {
-        return Err(Fault::Closed);
-    }
-    match written.result {
+    match written {
         Ok(head) => Ok(head.with_text(text)),
         Err(ToFault::WriteFailed | ToFault::Memory) => Err(Fault::Memory),
         Err(ToFault::Storage) => Err(Fault::Storage),
-        Err(ToFault::Closed) => Err(Fault::Closed),
+        Err(ToFault::Closed | ToFault::Lost) => Err(Fault::Closed),
     }
 }
 

@@ -1,5 +1,5 @@
 //! Answers that are written straight to a writer from an open desk's register, and what is left of it then.
-ghost use Rattle.std.specs.Prelude.{◌≡◌, true, false, Err};
+ghost use Rattle.std.specs.Prelude.{◌≡◌, ◌≢◌, true, false, Err};
 ghost use Rattle.desk_rules.specs.Books.{Books};
 ghost use Rattle.desk_register.specs.View.{IfTrusted, IsRead};
 ghost use Rattle.desk_register.specs.Ends.{at_register};
@@ -19,14 +19,6 @@ use desk_register::{Fault, Register, Stage, WalkFault};
 use desk_streams::Sink;
 use std::alloc::Global;
 
-/// How it ended that an answer was written.
-#[derive(Clone, Copy)]
-pub struct Written {
-    pub result: Result<Head, ToFault>,
-    /// Whether the register is lost: it cannot be shown that it holds what it held
-    pub is_lost: bool,
-}
-
 /// What is told row by row.
 #[derive(Clone, Copy)]
 pub enum Report {
@@ -36,26 +28,25 @@ pub enum Report {
     Totals,
 }
 
-/// Writes a report to a writer, and sees what is left of the register.
+/// Writes a report to a writer, and sees what is left of the register: whether it can be shown that it holds what it held.
 pub fn tell_to<R: Register, W: Sink>(
     alloc: Global,
     register: &mut R,
     report: Report,
     writer: &mut W,
-) -> Written
+) -> Result<Head, ToFault>
     requires ready { IsReady false (R.view register.old) }
     ensures written { (books : Books) → (R.view register.new).is_honest → Keeps (R.view register.old).room books (R.view register.old).content
-        → Writes (IsReported (R.view register.old).room books report) result.result (W.contents writer.old) (W.contents writer.new) }
-    ensures ends { EndsWriting result.result result.is_lost (R.view register.old) (R.view register.new) }
-    ensures in_memory { R.in_memory ≡ true → result.is_lost ≡ false }
-    ensures unwritten { result.result ≡ Err ToFault.WriteFailed → W.may_fail ≡ true }
+        → Writes (IsReported (R.view register.old).room books report) result (W.contents writer.old) (W.contents writer.new) }
+    ensures ends { EndsWriting result (R.view register.old) (R.view register.new) }
+    ensures in_memory { R.in_memory ≡ true → result ≢ Err ToFault.Lost }
+    ensures unwritten { result ≡ Err ToFault.WriteFailed → W.may_fail ≡ true }
 {
     let written = write_report(alloc, register, report, writer);
-    let is_lost = is_lost_by(alloc, register, &written);
-    Written {
-        result: told(written),
-        is_lost,
+    if is_lost_by(alloc, register, &written) {
+        return Err(ToFault::Lost);
     }
+    Ok(written?)
 }
 
 /// Writes a report to a writer.
@@ -104,11 +95,4 @@ fn is_lost_after<R: Register>(alloc: Global, register: &mut R, fault: Fault) -> 
         Failure::Undone(_) => false,
         Failure::Lost => true,
     }
-}
-
-/// What is told of a walk.
-fn told(written: Result<Head, WalkFault>) -> Result<Head, ToFault>
-    ensures { result ≡ told_of_walk written }
-{
-    Ok(written?)
 }

@@ -16,5 +16,5 @@ returns-clause-reported g c =
           told_written (contents c.args.writer.now) (contents c.write_report-written.new.writer) (contents c.tell_written.new.writer) (view old.register).room books asked c.tell_written.result c.write_report-written.result (w.open c.requires)
           (w.written books held.0 (λ is. held.1)) c.tell_written.ensures.told;
       left = λ books held. (now.is_closed, record { closed = refl; holds = w.keeps books held.0 (λ is. held.1) });
-      stays = λ books held. left_written view now books c.tell_written.result c.write_report-written.result _ w.stays (w.keeps books held.0 (λ is. held.1)) c.tell_written.ensures.told;
+      stays = λ books held. left_written view now books c.tell_written.result c.write_report-written.result _ w.told (w.keeps books held.0 (λ is. held.1)) c.tell_written.ensures.told;
     }

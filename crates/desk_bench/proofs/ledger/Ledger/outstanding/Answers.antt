@@ -1,7 +1,0 @@
-use Rattle.desk_bench.proofs.LedgerLemmas.{still_kept}
-use Rattle.desk_bench.proofs.ledger.Ledger.outstanding.Goals as goal
-
-pub invariant_of-self : goal.invariant_of-self
-invariant_of-self g c =
-    let law = g.met.R.MemoryRegister.has_no_device in
-    still_kept c.outstanding.result _ _ (law _) (law _) c.outstanding.ensures.read c.self.invariant

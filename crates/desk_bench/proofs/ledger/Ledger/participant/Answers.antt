@@ -1,7 +1,0 @@
-use Rattle.desk_bench.proofs.LedgerLemmas.{still_kept}
-use Rattle.desk_bench.proofs.ledger.Ledger.participant.Goals as goal
-
-pub invariant_of-self : goal.invariant_of-self
-invariant_of-self g c =
-    let law = g.met.R.MemoryRegister.has_no_device in
-    still_kept c.participant.result _ _ (law _) (law _) c.participant.ensures.read c.self.invariant
