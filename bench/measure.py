@@ -1,6 +1,6 @@
-"""Times the program of the bench beside Python, the same work and the same figures in one run; scripts played by the desk's program
-over a file, beside their statements asked of Python's SQLite; a register that takes entries in, and the desk's program playing
-scripts; and the same served over HTTP, beside a server of Python's. bench/RESULTS.md has the figures of a run."""
+"""Times scripts played by the desk's program, in memory and over a file, beside their statements asked of Python's SQLite; files
+opened by the program of the bench; and the same served over HTTP, beside a server of Python's: measure.py [KIND..].
+bench/RESULTS.md has the figures of a run."""
 
 import contextlib
 import functools
@@ -23,133 +23,22 @@ import time
 sys.dont_write_bytecode = True
 sys.path.insert(0, os.path.join(os.path.dirname(os.path.abspath(__file__)), "..", "tests"))
 
-from codes import check_digit  # noqa: E402
 from lib.over_http import requests_of, sent_for  # noqa: E402
 from lib.play import requests_in  # noqa: E402
 from statements import Desk  # noqa: E402
 
-
-def is_isin(code):
-    if len(code) != 12 or not all("A" <= c <= "Z" for c in code[:2]):
-        return False
-    if not all("A" <= c <= "Z" or "0" <= c <= "9" for c in code[:11]):
-        return False
-    return code[11] == str(check_digit(code[:11]))
-
-
-def valid_isins(count):
-    return sum(is_isin("US%09d%d" % (n, n % 10)) for n in range(count))
-
-
-def read_number(text, decimals):
-    whole, comma, part = text.partition(",")
-    if not comma or not whole.isdigit() or (part and not part.isdigit()) or len(text) > 15:
-        return None
-    if part[decimals:].strip("0"):
-        return None
-    return int(whole + part[:decimals].ljust(decimals, "0")) or None
-
-
-def numbers_read(count):
-    total = 0
-    for n in range(count):
-        total += read_number("%09d,5" % n, 2) or 0
-    return total % 2**64
-
-
-TAGGED = re.compile(rb":([0-9]{2}[A-Z]?):([ -~]*)")
-FURTHER = re.compile(rb"(?![:-])[ -~]*")
-NAME = re.compile(rb"[A-Z0-9]{1,16}")
-
-
-def lines_of(text):
-    *ended, last = text.split(b"\n")
-    lines = [line[:-1] if line.endswith(b"\r") else line for line in ended]
-    return [*lines, last] if last else lines
-
-
-def read_block(text):
-    """The fields of a block as (path, tag, values, line), or None where a text is no block."""
-    lines = lines_of(text)
-    if len(text) > 65_536 or lines[:1] != [b"{4:"]:
-        return None
-    names, fields, goes_on = [], [], False
-    for number, line in enumerate(lines[1:], 2):
-        if tagged := TAGGED.fullmatch(line):
-            tag, value = tagged.groups()
-            goes_on = tag not in (b"16R", b"16S")
-            if goes_on:
-                fields.append((tuple(names), tag, [value], number))
-            elif not NAME.fullmatch(value):
-                return None
-            elif tag == b"16R":
-                if len(names) == 16:
-                    return None
-                names.append(value)
-            elif not names or names.pop() != value:
-                return None
-        elif line == b"-}":
-            return None if names or any(lines[number:]) else fields
-        elif goes_on and FURTHER.fullmatch(line):
-            fields[-1][2].append(line)
-        else:
-            return None
-    return None
-
-
-def size_of(field):
-    path, tag, values, line = field
-    return line + len(tag) + sum(len(part) + 1 for part in (*path, *values))
-
-
-def fields_read(text, count):
-    total = 0
-    for _ in range(count):
-        total += sum(map(size_of, read_block(text) or []))
-    return total % 2**64
-
-
-def block_of(length):
-    """A block of that many bytes: one sequence over and over, and a field that fills it up."""
-    front, end = b"{4:\n", b"\n-}\n"
-    sequence = b":16R:FIAC\n:36B::SETT//UNIT/400,\n:97A::SAFE//A-1\n:16S:FIAC\n"
-    times, filling = divmod(length - len(front) - len(end) - len(b":70E:"), len(sequence))
-    return front + times * sequence + b":70E:" + filling * b"x" + end
-
-
-# kind: what is counted, how many times the program does it and how many times Python does, and Python's
-# way. The program does more, since it would else be over too soon to be timed.
-KINDS = {
-    "isin": ("ISINs", 5_000_000, 100_000, valid_isins),
-    "number": ("numbers", 20_000_000, 200_000, numbers_read),
-}
-
-MESSAGE = "examples/deliver_against_payment.fin"
-
-# How many times a message is read, by the program and by Python; how many bytes are read for each length, and how
-# often that is timed, the least time being the one that other work on the machine slowed least.
-MESSAGES = 200_000, 4_000
-BYTES = 64 * 2**20
-TURNS = 3
-
-
-# How many requests are played, and entries are taken in; what is likely to take longer than so many seconds is
-# skipped.
+# How many requests are played; what is likely to take longer than so many seconds is skipped.
 SIZES = 1_000, 10_000, 100_000
 MOST_SECONDS = 600
 
-# Of the entries of a mixed day that a register takes in, those of the opening; and the pairs that each hundred settles, but
-# for one more in each second.
-REGISTER_OPENING, REGISTER_PAIRS = 5, 44
-
-# They are timed so often, the least time counting, unless that takes longer than so many seconds.
-MOST_TURNS, ENOUGH_SECONDS = 9, 10
+# They are timed so often, the least time being the one that other work on the machine slowed least.
+TURNS = 3
 
 # The proved program; a script has so many bytes at most.
 DESK = "crates/desk/out/desk"
 LONGEST_SCRIPT = 16_777_216
 
-# The program that does one kind of work, and fills and opens files; and the folder in which files are made, one that lies in
+# The program that fills and opens files; and the folder in which files are made, one that lies in
 # memory, where there is such.
 BENCH = "crates/desk_bench/out/desk_bench"
 SHARED_MEMORY = "/dev/shm"
@@ -172,41 +61,6 @@ def processor_time():
     """The seconds that this process and those it ran have computed. Other work on the machine isn't in them."""
     spent = [resource.getrusage(who) for who in (resource.RUSAGE_SELF, resource.RUSAGE_CHILDREN)]
     return sum(it.ru_utime + it.ru_stime for it in spent)
-
-
-def timed(call):
-    started = processor_time()
-    figure = call()
-    return figure, processor_time() - started
-
-
-def run(program, kind, count, text=b""):
-    done = subprocess.run([program, kind, str(count)], input=text, capture_output=True, check=True)
-    return int(done.stdout)
-
-
-def compare(program, kind, unit, many, few, in_python, text=b"", units=1):
-    """Does the same with both, and prints how many units a second each does, units in one go."""
-    same, _ = timed(lambda: run(program, kind, few, text))
-    figure, slow = timed(lambda: in_python(few))
-    if same != figure:
-        sys.exit(f"{kind}: the program's figure is {same}, and Python's {figure}")
-    _, fast = timed(lambda: run(program, kind, many, text))
-    desk, python = many * units / fast, few * units / slow
-    print(f"{kind}: desk {desk:,.0f} {unit}/s, Python {python:,.0f} {unit}/s, ratio {desk / python:.1f}")
-
-
-def measure_blocks(program):
-    """A message many times over, and then blocks of growing length, the same number of bytes of each."""
-    with open(MESSAGE, "rb") as file:
-        message = file.read()
-    compare(program, "block", "bytes", *MESSAGES, lambda count: fields_read(message, count), message, len(message))
-    for length in (2**n * 1024 for n in range(7)):
-        text, count = block_of(length), BYTES // length
-        if len(text) != length or run(program, "block", 1, text) != fields_read(text, 1):
-            sys.exit(f"block of {length} bytes: the program's figure is another than Python's")
-        taken = min(timed(lambda: run(program, "block", count, text))[1] for _ in range(TURNS))
-        print(f"block of {length // 1024} KiB: desk {taken / (count * length) * 1e9:.2f} ns/byte")
 
 
 def command(**members):
@@ -558,39 +412,6 @@ def measure_open():
         )
 
 
-def least_timed(call):
-    """The figure, and the least processor seconds of several turns, of fewer where they take long."""
-    figure, least = timed(call)
-    spent, turn = least, 1
-    while turn < MOST_TURNS and spent < ENOUGH_SECONDS:
-        again, seconds = timed(call)
-        if again != figure:
-            sys.exit(f"the program's figure is {again}, and was {figure}")
-        least, spent, turn = min(least, seconds), spent + seconds, turn + 1
-    return figure, least
-
-
-def entries_timed(program, size):
-    """So many entries, made and taken into a register. The start of the program isn't counted."""
-    hundreds = (size - REGISTER_OPENING) // 100
-    pairs = REGISTER_PAIRS * hundreds + hundreds // 2
-    _, start = least_timed(lambda: run(program, "day", 0))
-    settled, seconds = least_timed(lambda: run(program, "day", size))
-    if settled != pairs:
-        sys.exit(f"register: {settled} pairs settled of {pairs}")
-    return pairs, seconds - start
-
-
-def measure_register(program):
-    """The register in memory alone, taking in more and more entries."""
-    print(
-        "register: entries of a mixed day (half against payment, a run each hundred, in each a pair that is short, and is "
-        "then covered or cancelled) are made and taken in one by one (verdict, pairs, runs, messages, reply, tables) by the "
-        "register in memory; after each fourth the sums and a holding are asked for; no script, no JSON and no message is read"
-    )
-    measure_growing("register of", "entry", "entries", functools.partial(entries_timed, program))
-
-
 # How many requests are asked over HTTP, one a connection; and what the server of Python's answers to each.
 ASKED = 2_000
 CONSTANT = b'{"cash":[],"securities":[]}'
@@ -649,22 +470,8 @@ def measure_http():
     )
 
 
-def main(kinds):
-    for kind in kinds or [*KINDS, "block", "register", "play", "store", "open", "http"]:
-        if kind == "block":
-            measure_blocks(BENCH)
-        elif kind == "register":
-            measure_register(BENCH)
-        elif kind == "play":
-            measure_play()
-        elif kind == "store":
-            measure_store()
-        elif kind == "open":
-            measure_open()
-        elif kind == "http":
-            measure_http()
-        else:
-            compare(BENCH, kind, *KINDS[kind])
+KINDS = {"play": measure_play, "store": measure_store, "open": measure_open, "http": measure_http}
 
-
-main(sys.argv[1:])
+if __name__ == "__main__":
+    for word in sys.argv[1:] or KINDS:
+        KINDS[word]()

@@ -22,6 +22,11 @@ def books_after(script):
     return books
 
 
+def told_of(books):
+    """What the program of the bench tells of a file whose desk has these books."""
+    return sums(books).text + b"entries %d\n" % len(books.history)
+
+
 def sums_after(script):
     """The sums that the plain program has behind a script, in a line."""
     return sums(books_after(script)).text + b"\n"

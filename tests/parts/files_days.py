@@ -28,11 +28,11 @@ import tempfile
 from generate.chance import Chance
 from generate.comparing import DEFAULT_SEED
 from generate.parts import parts_of
-from lib.files import books_after, changed, dumped, entries_in, looked_at, removed
+from lib.files import books_after, changed, dumped, entries_in, looked_at, removed, told_of
 from lib.odd import A_DAY, NOTHING, cancellation, command, instruction, odd_files, script_of_day
 from lib.play import ran, unlike
 from plain.books import EMPTY
-from plain.desk import refused_reply, sums
+from plain.desk import refused_reply
 from plain.program import answer
 from plain.scripts import ask_item, items_of, shown
 
@@ -86,11 +86,6 @@ class Bench:
     def opened(self, path, *limit):
         """What is told of a file that is opened, and closed."""
         return self.ended("open", path, *limit)
-
-
-def told_of(books):
-    """What is told of a file whose desk has these books."""
-    return sums(books).text + b"entries %d\n" % len(books.history)
 
 
 # ---- random scripts

@@ -1,2 +1,0 @@
-mod LedgerLemmas
-mod ShortNumbers

@@ -19,9 +19,7 @@ pub enum Failure {
     Storage,
     /// A database was not opened.
     Unopened(OpenFault),
-    /// Two sums that must agree do not.
-    Sums,
-    /// An entry was refused, or was there already.
+    /// A command was refused.
     Refused,
     /// The script that is played first could not be played.
     Setup,

@@ -17,33 +17,25 @@
 //! `adopt` plays a script on tables in memory, leaves a change under way in them, and takes them over again: it prints what `open`
 //! prints, behind the answers.
 //!
+//! `stopped LOG DB` plays a script on a desk whose two files lie in memory and fail behind so many calls, and again once the machine
+//! has come back, for `tests/parts/refuse stops`.
+//!
 //! `damaged CALL ROW [CHANGE]` tells what a call that reads the tables answers of a row, for `tests/parts/files damaged`: ROW is a
 //! statement that puts it into new tables, and CHANGE one that damages it.
-//!
-//! `day STORE` asks a register a day's entries, for `tests/parts/refuse register`, which refuses it growths of memory. STORE is
-//! `lists` or `index`.
 //!
 //! `schema FILE` opens a file and tells `ours` where its schema is the desk's, else `not ours`, for `tests/parts/files opened`.
 //!
 //! `statement COUNT` and `sums COUNT` write the statement of an account that holds so many securities, or the totals of as
 //! many, straight to standard output, for `tests/parts/cases bounded_memory`.
-//!
-//! `isin COUNT`, `number COUNT`, `block COUNT`, `lists COUNT` and `index COUNT` do one kind of the desk's work that many
-//! times and print a figure of it, so that two programs can be seen to have done the same. The text of a block comes on
-//! standard input. bench/run times it.
 #![tactic(auto)]
 
 mod connections;
 mod damaged;
-mod digits;
 mod failure;
-mod figures;
 mod in_memory;
-mod ledger;
-mod market;
 mod opening;
-mod registers;
 mod reports;
+mod stops;
 mod streams;
 mod tables;
 mod work;
@@ -90,10 +82,9 @@ fn done(rt: &HostRuntime, work: Work<'_>) -> Result<bool, Failure> {
         Work::Adopt => tables::tell_adopted(rt),
         Work::Damaged { call, row, change } => damaged::tell(rt, call, row, change),
         Work::Open(path, limit) => tables::tell(rt, path, limit),
-        Work::Day => registers::try_register(rt),
+        Work::Stopped(stops) => stops::play_stopped(rt, stops),
         Work::Schema(path) => opening::tell_schema(rt, path),
         Work::Report(form, count) => reports::print(rt, form, count),
-        Work::Figure(kind, count) => figures::print(rt, kind, count),
     }
 }
 

@@ -1,6 +1,5 @@
 //! Statements and sums, written straight to a writer.
 
-use crate::digits::digits;
 use crate::failure::Failure;
 use crate::in_memory::new_desk;
 use desk_book::{Desk, Question};
@@ -62,7 +61,7 @@ fn write_report<W: Sink>(
 /// Registers a security of its own for each number, and issues a million units of it.
 fn issue(alloc: Global, desk: &mut Desk<ListRegister>, number: u32) -> Result<(), Failure> {
     let mut body = *b"US000000000";
-    body[2..].copy_from_slice(&digits(number));
+    write_digits(&mut body[2..], number);
     let check = check_digit(body).ok_or(Failure::Form)?;
     let isin = str::from_utf8(&body).map_err(|_| Failure::Form)?;
     let security = format!(in alloc;
@@ -73,6 +72,15 @@ fn issue(alloc: Global, desk: &mut Desk<ListRegister>, number: u32) -> Result<()
         "{{\"op\":\"issue\",\"ref\":\"I{number}\",\"account\":\"A-1\",\"isin\":\"{isin}{check}\",\"quantity\":1000000}}"
     )?;
     order(alloc, desk, issue.as_bytes())
+}
+
+/// Fills a place with the last digits of a number.
+fn write_digits(slots: &mut [u8], number: u32) {
+    let mut rest = number;
+    for slot in slots.iter_mut().rev() {
+        *slot = b'0' + (rest % 10) as u8;
+        rest /= 10;
+    }
 }
 
 /// Asks for an operator's command, which is accepted.

@@ -13,6 +13,7 @@ use desk_mirror::MirroredRegister;
 use desk_opening::{Silent, adopt, adopt_tables, open_file, open_tables};
 use desk_register::{MemoryRegister, Register, ToldRegister};
 use desk_rules::MOST_ENTRIES;
+use desk_streams::Source;
 use memory_register::ListRegister;
 use sql_register::SqlRegister;
 use sqlite::{Alter, Connection, FileStore, MemStore, Unknown};
@@ -41,30 +42,36 @@ impl Registers {
 
 /// What is done over a register.
 #[derive(Clone, Copy)]
-enum Deed {
+pub enum Deed<'a> {
     /// The script of standard input is played
     Play,
+    /// This script is played
+    PlayThis(&'a [u8]),
     /// Its sums are told, and how many entries it has
     Tell,
 }
 
-/// Plays the script of standard input on a desk over a register, prints the answers, and gives the register back.
-fn play<D: Register + Drop>(rt: &HostRuntime, register: D) -> Result<D, Failure>
+/// Plays a script on a desk over a register, prints the answers, and gives the register back.
+fn play<D: Register + Drop, R: Source>(
+    rt: &HostRuntime,
+    register: D,
+    reader: &mut R,
+) -> Result<D, Failure>
     requires { IsReady false (D.view register) }
 {
     let mut desk = Desk::new(register);
-    desk.play(rt.alloc(), &mut rt.stdin(), &mut io::writer(rt))?;
+    desk.play(rt.alloc(), reader, &mut io::writer(rt))?;
     Ok(desk.into_register())
 }
 
-/// The same over tables alone.
+/// Plays the script of standard input over tables alone.
 fn play_over_tables<S: Alter + Drop>(
     rt: &HostRuntime,
     tables: SqlRegister<S>,
 ) -> Result<(), Failure>
     requires { IsReady false (shown (state S.Store tables.connection) tables.stage tables.room) }
 {
-    play(rt, tables)?;
+    play(rt, tables, &mut rt.stdin())?;
     Ok(())
 }
 
@@ -117,11 +124,15 @@ fn tell_of<D: Register + Drop>(rt: &HostRuntime, register: D) -> Result<D, Failu
 }
 
 /// Does it over a register, and gives that back.
-fn do_over<D: Register + Drop>(rt: &HostRuntime, register: D, deed: Deed) -> Result<D, Failure>
+fn do_over<D: Register + Drop>(rt: &HostRuntime, register: D, deed: Deed<'_>) -> Result<D, Failure>
     requires { IsReady false (D.view register) }
 {
     match deed {
-        Deed::Play => play(rt, register),
+        Deed::Play => play(rt, register, &mut rt.stdin()),
+        Deed::PlayThis(script) => {
+            let mut reader = script;
+            play(rt, register, &mut reader)
+        }
         Deed::Tell => tell_of(rt, register),
     }
 }
@@ -131,7 +142,7 @@ fn do_over<D: Register + Drop>(rt: &HostRuntime, register: D, deed: Deed) -> Res
 fn do_over_both<M: MemoryRegister + Drop, T: ToldRegister + Drop>(
     rt: &HostRuntime,
     both: MirroredRegister<M, T>,
-    deed: Deed,
+    deed: Deed<'_>,
 ) -> Result<T, Failure>
     requires { IsReady false (shown_of_both (M.view both.memory) both.stage (T.view both.tables)) }
 {
@@ -140,10 +151,10 @@ fn do_over_both<M: MemoryRegister + Drop, T: ToldRegister + Drop>(
 }
 
 /// The same, of which the connection is given back.
-fn do_over_tables<S: Alter + Drop>(
+pub fn do_over_tables<S: Alter + Drop>(
     rt: &HostRuntime,
     both: MirroredRegister<ListRegister, SqlRegister<S>>,
-    deed: Deed,
+    deed: Deed<'_>,
 ) -> Result<Connection<S>, Failure>
     requires { IsReady false (view_of_both S.Store both) }
 {
@@ -154,7 +165,7 @@ fn do_over_tables<S: Alter + Drop>(
 fn do_on_adopted(
     rt: &HostRuntime,
     conn: Connection<MemStore>,
-    deed: Deed,
+    deed: Deed<'_>,
 ) -> Result<Connection<MemStore>, Failure> {
     match adopt(rt.alloc(), conn, MOST_ENTRIES) {
         Ok(both) => do_over_tables(rt, both, deed),
@@ -163,7 +174,7 @@ fn do_on_adopted(
 }
 
 /// The same over the desk of a file, which is opened for so many entries. A file that is told of is closed.
-fn do_on_file(rt: &HostRuntime, path: &str, limit: u64, deed: Deed) -> Result<(), Failure> {
+fn do_on_file(rt: &HostRuntime, path: &str, limit: u64, deed: Deed<'_>) -> Result<(), Failure> {
     match open_file(rt, path, Unknown, limit.min(MOST_ENTRIES), &mut Silent) {
         Ok(both) => end(do_over_tables(rt, both, deed)?, deed),
         Err(fault) => Err(Failure::from(fault)),
@@ -171,9 +182,9 @@ fn do_on_file(rt: &HostRuntime, path: &str, limit: u64, deed: Deed) -> Result<()
 }
 
 /// Closes a file that was told of.
-fn end<D: Disk + Drop>(conn: Connection<FileStore<D>>, deed: Deed) -> Result<(), Failure> {
+fn end<D: Disk + Drop>(conn: Connection<FileStore<D>>, deed: Deed<'_>) -> Result<(), Failure> {
     match deed {
-        Deed::Play => Ok(()),
+        Deed::Play | Deed::PlayThis(_) => Ok(()),
         Deed::Tell => Ok(conn.close()?),
     }
 }

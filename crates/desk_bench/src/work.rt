@@ -1,8 +1,8 @@
 //! What the words ask for.
 
 use crate::damaged::Call;
-use crate::figures::Kind;
 use crate::reports::Form;
+use crate::stops::Stops;
 use crate::tables::Registers;
 use desk_rules::MOST_ENTRIES;
 
@@ -27,14 +27,12 @@ pub enum Work<'a> {
         row: &'a str,
         change: Option<&'a str>,
     },
-    /// A day's entries are asked of a register.
-    Day,
+    /// A script is played over files that fail from some call on, and again.
+    Stopped(Stops),
     /// A file is opened, and its schema looked at.
     Schema(&'a str),
     /// A report of so many securities is written.
     Report(Form, u32),
-    /// So much work of a kind is done, and its figure printed.
-    Figure(Kind, u32),
 }
 
 impl<'a> Work<'a> {
@@ -61,7 +59,6 @@ impl<'a> Work<'a> {
     fn of_none(kind: &'a str) -> Option<Work<'a>> {
         Some(match kind {
             "adopt" => Work::Adopt,
-            "day" => Work::Day,
             _ => Work::Play(Registers::read(kind)?, None, MOST_ENTRIES),
         })
     }
@@ -74,7 +71,7 @@ impl<'a> Work<'a> {
             "schema" => Work::Schema(word),
             "statement" => Work::Report(Form::Statement, number(word)?),
             "sums" => Work::Report(Form::Sums, number(word)?),
-            _ => Work::Figure(Kind::read(kind)?, number(word)?),
+            _ => return None,
         })
     }
 
@@ -87,6 +84,10 @@ impl<'a> Work<'a> {
                 setup: None,
             },
             "open" => Work::Open(first, u64::from(number(second)?)),
+            "stopped" => Work::Stopped(Stops {
+                log: u64::from(number(first)?),
+                db: u64::from(number(second)?),
+            }),
             "play" => Work::Play(Registers::Both, Some(first), u64::from(number(second)?)),
             "damaged" => Work::Damaged {
                 call: Call::read(first)?,
