@@ -5,4 +5,3 @@ mod NumberWords
 mod PlainWords
 mod ReportWords
 mod WordsLemmas
-mod SubcommandLemmas

@@ -1,2 +1,3 @@
 pub mod Causes
+pub mod Parser
 pub mod Words

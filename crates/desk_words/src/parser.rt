@@ -1,65 +1,275 @@
 //! The parser of the words: the subcommands, their arguments and their helps.
 ghost use Rattle.std.specs.Prelude.{◌≡◌, false, IfOk};
-ghost use Rattle.std.specs.Result.{IsOkAnd};
-ghost use Rattle.clap.specs.Simple.{shape_of};
-ghost use Rattle.clap.specs.Words.{app_of, rule_of, with_rule, with_subcommand};
+ghost use Rattle.clap.specs.Words.{app_of, rule_of, with_subcommand};
 ghost use Rattle.clap.specs.declared.builder.command.Command.TheViews.{out-Command};
-ghost use Rattle.desk_words.specs.Words.{account_rule, bare_app, bic_rule, cause_rule, check_app, count_rule, db_rule, desk_app, drop_app, explain_app, from_rule, holdings_app, in_rule, isin_app, journal_app, json_rule, needed_db_rule, out_rule, part_rule, play_app, port_rule, read_app, report_app, serve_app, sums_app, type_rule};
+ghost use Rattle.desk_words.specs.Parser.{app_told, named_rule, rule_told, with_rules, with_subcommands};
+ghost use Rattle.desk_words.specs.Words.{bare_app, desk_app};
 
 use crate::helps::{
     CHECK, DROP, EXPLAIN, HOLDINGS, ISIN, JOURNAL, PLAY, PROGRAM, READ, REPORT, SERVE, SUMS,
     VERSION,
 };
-use clap::{Arg, ArgAction, Command, value_parser};
+use clap::builder::ValueParser;
+use clap::{Arg, ArgAction, Command};
 use std::alloc::{AllocError, Global};
 
-/// The most connections that are served.
-const MOST_CONNECTIONS: i64 = 1_000_000;
+/// How an argument is given.
+#[derive(Clone, Copy)]
+pub enum Form {
+    /// By its place
+    Place,
+    /// By its place, any number of times
+    Places,
+    /// Behind its name, as an option
+    Named,
+    /// By its name alone
+    Flag,
+}
 
-/// The greatest number that an entry can have.
-const MOST_ENTRIES_TOLD: i64 = 999_999_999;
+/// An argument.
+#[derive(Clone, Copy)]
+pub struct Argument<'a> {
+    /// By which its value is read back; an option's own name too
+    name: &'a str,
+    form: Form,
+    is_needed: bool,
+    /// What help calls its value
+    value: &'a str,
+    /// What help says of it
+    help: &'a str,
+    /// Of a number the least and the greatest
+    range: Option<(i64, i64)>,
+}
+
+/// A subcommand.
+#[derive(Clone, Copy)]
+pub struct Subcommand<'a> {
+    name: &'a str,
+    /// What help says of it, in front
+    about: &'a str,
+    /// And behind
+    after: &'a str,
+    arguments: &'a [Argument<'a>],
+}
+
+/// The subcommands, in the order of the help.
+const SUBCOMMANDS: [Subcommand<'static>; 11] = [
+    Subcommand {
+        name: "isin",
+        about: "Checks the identification number of a security",
+        after: ISIN,
+        arguments: &[Argument {
+            name: "code",
+            form: Form::Place,
+            is_needed: true,
+            value: "CODE",
+            help: "The number, as US0378331005",
+            range: None,
+        }],
+    },
+    Subcommand {
+        name: "read",
+        about: "Reads a settlement instruction, block 4, from standard input",
+        after: READ,
+        arguments: &[Argument {
+            name: "mt",
+            form: Form::Place,
+            is_needed: true,
+            value: "MT",
+            help: "The type of the message, 540 to 543",
+            range: Some((540, 543)),
+        }],
+    },
+    Subcommand {
+        name: "play",
+        about: "Plays a script of requests from standard input on the desk of a file, or one in memory (the default)",
+        after: PLAY,
+        arguments: &[MADE],
+    },
+    Subcommand {
+        name: "check",
+        about: "Plays a script as play does, and tells what is refused in it, and why",
+        after: CHECK,
+        arguments: &[],
+    },
+    Subcommand {
+        name: "explain",
+        about: "Tells what a refusal or a fault means, and what to do about it",
+        after: EXPLAIN,
+        arguments: &[Argument {
+            name: "number",
+            form: Form::Place,
+            is_needed: false,
+            value: "N",
+            help: "Its number, as 12 of `refused 12`; without it all are told",
+            range: Some((1, 99)),
+        }],
+    },
+    Subcommand {
+        name: "serve",
+        about: "Serves requests over HTTP on 127.0.0.1, one connection after another, on the desk of a file, or one in memory",
+        after: SERVE,
+        arguments: &[
+            MADE,
+            Argument {
+                name: "port",
+                form: Form::Named,
+                is_needed: true,
+                value: "N",
+                help: "The port, 1 to 65535",
+                range: Some((1, 65_535)),
+            },
+            Argument {
+                name: "count",
+                form: Form::Named,
+                is_needed: true,
+                value: "N",
+                help: "How many connections are served, 1 to 1000000",
+                range: Some((1, 1_000_000)),
+            },
+        ],
+    },
+    Subcommand {
+        name: "holdings",
+        about: "Prints what a participant's account holds, by the desk of a file",
+        after: HOLDINGS,
+        arguments: &[
+            NEEDED,
+            Argument {
+                name: "bic",
+                form: Form::Place,
+                is_needed: true,
+                value: "BIC",
+                help: "The participant, as ALPHDEFF",
+                range: None,
+            },
+            Argument {
+                name: "account",
+                form: Form::Place,
+                is_needed: true,
+                value: "ACCOUNT",
+                help: "Its account, as A-1",
+                range: None,
+            },
+        ],
+    },
+    Subcommand {
+        name: "sums",
+        about: "Prints the totals of all accounts and participants, by the desk of a file",
+        after: SUMS,
+        arguments: &[NEEDED],
+    },
+    Subcommand {
+        name: "report",
+        about: "Tells what stands at this moment, by the desk of a file, or by a script from standard input",
+        after: REPORT,
+        arguments: &[
+            Argument {
+                name: "part",
+                form: Form::Places,
+                is_needed: false,
+                value: "PART",
+                help: "What is told: pending, unmatched, accounts, cash or sums; without it all of them",
+                range: None,
+            },
+            JSON,
+            SHOWN,
+        ],
+    },
+    Subcommand {
+        name: "journal",
+        about: "Tells what was accepted, entry by entry, and how it fares, by the desk of a file, or by a script from standard input",
+        after: JOURNAL,
+        arguments: &[
+            Argument {
+                name: "from",
+                form: Form::Named,
+                is_needed: false,
+                value: "N",
+                help: "The number of the entry to begin with; without it the first",
+                range: Some((1, 999_999_999)),
+            },
+            JSON,
+            SHOWN,
+        ],
+    },
+    Subcommand {
+        name: "drop",
+        about: "Takes the files of a folder on the desk of a file, and writes the answers into another folder",
+        after: DROP,
+        arguments: &[
+            Argument {
+                name: "db",
+                form: Form::Named,
+                is_needed: true,
+                value: "FILE",
+                help: "The desk's file; where there is none it is made",
+                range: None,
+            },
+            Argument {
+                name: "in",
+                form: Form::Named,
+                is_needed: true,
+                value: "DIR",
+                help: "The folder of the files",
+                range: None,
+            },
+            Argument {
+                name: "out",
+                form: Form::Named,
+                is_needed: true,
+                value: "DIR",
+                help: "The folder of the answers, which is there",
+                range: None,
+            },
+        ],
+    },
+];
+
+/// The file of a desk: one that is made, or one in memory where none is named
+const MADE: Argument<'static> = Argument {
+    name: "db",
+    form: Form::Named,
+    is_needed: false,
+    value: "FILE",
+    help: "The desk's file; where there is none it is made",
+    range: None,
+};
+
+/// One that is there
+const NEEDED: Argument<'static> = Argument {
+    name: "db",
+    form: Form::Named,
+    is_needed: true,
+    value: "FILE",
+    help: "The desk's file, which is there",
+    range: None,
+};
+
+/// One that is there, or a script where none is named
+const SHOWN: Argument<'static> = Argument {
+    name: "db",
+    form: Form::Named,
+    is_needed: false,
+    value: "FILE",
+    help: "The desk's file, which is there; without it a script is played",
+    range: None,
+};
+
+const JSON: Argument<'static> = Argument {
+    name: "json",
+    form: Form::Flag,
+    is_needed: false,
+    value: "",
+    help: "As JSON, and not as text",
+    range: None,
+};
 
 /// The program with its subcommands.
 pub fn desk<'a>(alloc: Global) -> Result<Command<'a>, AllocError>
     ensures { IfOk result (λ command. app_of command ≡ desk_app) }
 {
-    let command = with(bare(alloc), isin(alloc))?;
-    let command = with(command, read(alloc))?;
-    let command = with(command, play(alloc))?;
-    let command = with(command, check(alloc))?;
-    let command = with(command, explain(alloc))?;
-    let command = with(command, serve(alloc))?;
-    let command = with(command, holdings(alloc))?;
-    let command = with(command, sums(alloc))?;
-    let command = with(command, report(alloc))?;
-    let command = with(command, journal(alloc))?;
-    with(command, folder(alloc))
-}
-
-/// With a subcommand more.
-fn with<'a>(
-    command: Command<'a>,
-    subcommand: Result<Command<'a>, AllocError>,
-) -> Result<Command<'a>, AllocError>
-    ensures { IfOk result (λ added. IsOkAnd subcommand.entry (λ one. (out-Command one).has_globals ≡ false → app_of added ≡ with_subcommand (app_of command.entry) (shape_of one))) }
-{
-    command.subcommand(subcommand?)
-}
-
-/// With three arguments.
-fn with_three<'a>(
-    command: Command<'a>,
-    first: Arg<'a>,
-    second: Arg<'a>,
-    third: Arg<'a>,
-) -> Result<Command<'a>, AllocError>
-    requires first { first.global ≡ false }
-    requires second { second.global ≡ false }
-    requires third { third.global ≡ false }
-    ensures app { IfOk result (λ added. app_of added ≡ with_rule (with_rule (with_rule (app_of command.entry) (rule_of first.entry)) (rule_of second.entry)) (rule_of third.entry)) }
-    ensures local { (out-Command command.entry).has_globals ≡ false → IfOk result (λ added. (out-Command added).has_globals ≡ false) }
-{
-    command.arg(first)?.arg(second)?.arg(third)
+    with_subcommands(alloc, bare(alloc), &SUBCOMMANDS)
 }
 
 /// The program, without its subcommands.
@@ -72,307 +282,87 @@ fn bare<'a>(alloc: Global) -> Command<'a>
         .version(VERSION)
 }
 
-fn isin<'a>(alloc: Global) -> Result<Command<'a>, AllocError>
-    ensures app { IfOk result (λ command. app_of command ≡ isin_app) }
+/// With subcommands more.
+fn with_subcommands<'a>(
+    alloc: Global,
+    command: Command<'a>,
+    subcommands: &[Subcommand<'a>],
+) -> Result<Command<'a>, AllocError>
+    ensures { IfOk result (λ added. app_of added ≡ with_subcommands (app_of command.entry) subcommands.now) }
+{
+    match subcommands {
+        [] => Ok(command),
+        [first, others @ ..] => {
+            let command = with_subcommand(alloc, command, first)?;
+            with_subcommands(alloc, command, others)
+        }
+    }
+}
+
+/// With a subcommand more.
+fn with_subcommand<'a>(
+    alloc: Global,
+    command: Command<'a>,
+    told: &Subcommand<'a>,
+) -> Result<Command<'a>, AllocError>
+    ensures { IfOk result (λ added. app_of added ≡ with_subcommand (app_of command.entry) (app_told told.now).top) }
+{
+    command.subcommand(command_of(alloc, told)?)
+}
+
+/// A subcommand.
+fn command_of<'a>(alloc: Global, told: &Subcommand<'a>) -> Result<Command<'a>, AllocError>
+    ensures app { IfOk result (λ command. app_of command ≡ app_told told.now) }
     ensures local { IfOk result (λ command. (out-Command command).has_globals ≡ false) }
 {
-    Command::new(alloc, "isin")
-        .about("Checks the identification number of a security")
-        .after_help(ISIN)
-        .arg(
-            Arg::new(alloc, "code")
-                .value_name("CODE")
-                .help("The number, as US0378331005")
-                .required(true),
-        )
+    let command = Command::new(alloc, told.name)
+        .about(told.about)
+        .after_help(told.after);
+    with_arguments(alloc, command, told.arguments)
 }
 
-fn read<'a>(alloc: Global) -> Result<Command<'a>, AllocError>
-    ensures app { IfOk result (λ command. app_of command ≡ read_app) }
-    ensures local { IfOk result (λ command. (out-Command command).has_globals ≡ false) }
+/// With arguments more.
+fn with_arguments<'a>(
+    alloc: Global,
+    command: Command<'a>,
+    arguments: &[Argument<'a>],
+) -> Result<Command<'a>, AllocError>
+    ensures app { IfOk result (λ added. app_of added ≡ with_rules (app_of command.entry) arguments.now) }
+    ensures local { (out-Command command.entry).has_globals ≡ false → IfOk result (λ added. (out-Command added).has_globals ≡ false) }
 {
-    Command::new(alloc, "read")
-        .about("Reads a settlement instruction, block 4, from standard input")
-        .after_help(READ)
-        .arg(message_type(alloc))
+    match arguments {
+        [] => Ok(command),
+        [first, others @ ..] => {
+            let command = command.arg(arg_of(alloc, first))?;
+            with_arguments(alloc, command, others)
+        }
+    }
 }
 
-fn play<'a>(alloc: Global) -> Result<Command<'a>, AllocError>
-    ensures app { IfOk result (λ command. app_of command ≡ play_app) }
-    ensures local { IfOk result (λ command. (out-Command command).has_globals ≡ false) }
-{
-    Command::new(alloc, "play")
-        .about(
-            "Plays a script of requests from standard input on the desk of a file, or one in memory (the default)",
-        )
-        .after_help(PLAY)
-        .arg(db(alloc))
-}
-
-fn check<'a>(alloc: Global) -> Result<Command<'a>, AllocError>
-    ensures app { IfOk result (λ command. app_of command ≡ check_app) }
-    ensures local { IfOk result (λ command. (out-Command command).has_globals ≡ false) }
-{
-    Ok(
-        Command::new(alloc, "check")
-            .about("Plays a script as play does, and tells what is refused in it, and why")
-            .after_help(CHECK),
-    )
-}
-
-fn explain<'a>(alloc: Global) -> Result<Command<'a>, AllocError>
-    ensures app { IfOk result (λ command. app_of command ≡ explain_app) }
-    ensures local { IfOk result (λ command. (out-Command command).has_globals ≡ false) }
-{
-    Command::new(alloc, "explain")
-        .about("Tells what a refusal or a fault means, and what to do about it")
-        .after_help(EXPLAIN)
-        .arg(cause(alloc))
-}
-
-fn serve<'a>(alloc: Global) -> Result<Command<'a>, AllocError>
-    ensures app { IfOk result (λ command. app_of command ≡ serve_app) }
-    ensures local { IfOk result (λ command. (out-Command command).has_globals ≡ false) }
-{
-    with_three(
-        Command::new(alloc, "serve")
-            .about(
-                "Serves requests over HTTP on 127.0.0.1, one connection after another, on the desk of a file, or one in memory",
-            )
-            .after_help(SERVE),
-        db(alloc),
-        port(alloc),
-        count(alloc),
-    )
-}
-
-fn holdings<'a>(alloc: Global) -> Result<Command<'a>, AllocError>
-    ensures app { IfOk result (λ command. app_of command ≡ holdings_app) }
-    ensures local { IfOk result (λ command. (out-Command command).has_globals ≡ false) }
-{
-    with_three(
-        Command::new(alloc, "holdings")
-            .about("Prints what a participant's account holds, by the desk of a file")
-            .after_help(HOLDINGS),
-        needed_db(alloc),
-        bic(alloc),
-        account(alloc),
-    )
-}
-
-fn sums<'a>(alloc: Global) -> Result<Command<'a>, AllocError>
-    ensures app { IfOk result (λ command. app_of command ≡ sums_app) }
-    ensures local { IfOk result (λ command. (out-Command command).has_globals ≡ false) }
-{
-    Command::new(alloc, "sums")
-        .about("Prints the totals of all accounts and participants, by the desk of a file")
-        .after_help(SUMS)
-        .arg(needed_db(alloc))
-}
-
-fn report<'a>(alloc: Global) -> Result<Command<'a>, AllocError>
-    ensures app { IfOk result (λ command. app_of command ≡ report_app) }
-    ensures local { IfOk result (λ command. (out-Command command).has_globals ≡ false) }
-{
-    with_three(
-        Command::new(alloc, "report")
-            .about(
-                "Tells what stands at this moment, by the desk of a file, or by a script from standard input",
-            )
-            .after_help(REPORT),
-        part(alloc),
-        json(alloc),
-        shown_db(alloc),
-    )
-}
-
-fn journal<'a>(alloc: Global) -> Result<Command<'a>, AllocError>
-    ensures app { IfOk result (λ command. app_of command ≡ journal_app) }
-    ensures local { IfOk result (λ command. (out-Command command).has_globals ≡ false) }
-{
-    with_three(
-        Command::new(alloc, "journal")
-            .about(
-                "Tells what was accepted, entry by entry, and how it fares, by the desk of a file, or by a script from standard input",
-            )
-            .after_help(JOURNAL),
-        from(alloc),
-        json(alloc),
-        shown_db(alloc),
-    )
-}
-
-fn folder<'a>(alloc: Global) -> Result<Command<'a>, AllocError>
-    ensures app { IfOk result (λ command. app_of command ≡ drop_app) }
-    ensures local { IfOk result (λ command. (out-Command command).has_globals ≡ false) }
-{
-    with_three(
-        Command::new(alloc, "drop")
-            .about(
-                "Takes the files of a folder on the desk of a file, and writes the answers into another folder",
-            )
-            .after_help(DROP),
-        made_db(alloc),
-        coming_in(alloc),
-        going_out(alloc),
-    )
-}
-
-fn message_type<'a>(alloc: Global) -> Arg<'a>
-    ensures rule { rule_of result ≡ type_rule }
+/// An argument.
+fn arg_of<'a>(alloc: Global, told: &Argument<'a>) -> Arg<'a>
+    ensures rule { rule_of result ≡ rule_told told.now }
     ensures local { result.global ≡ false }
 {
-    Arg::new(alloc, "mt")
-        .value_name("MT")
-        .help("The type of the message, 540 to 543")
-        .required(true)
-        .value_parser(value_parser!(u16).range(540..=543))
+    let arg = named(alloc, told.name, told.form, told.value)
+        .help(told.help)
+        .required(told.is_needed);
+    match told.range {
+        Some((least, most)) => arg.value_parser(ValueParser::Signed(least, most)),
+        None => arg,
+    }
 }
 
-fn cause<'a>(alloc: Global) -> Arg<'a>
-    ensures rule { rule_of result ≡ cause_rule }
+/// An argument of a name, which is given so.
+fn named<'a>(alloc: Global, name: &'a str, form: Form, value: &'a str) -> Arg<'a>
+    ensures rule { rule_of result ≡ named_rule form name.entry.now }
     ensures local { result.global ≡ false }
 {
-    Arg::new(alloc, "number")
-        .value_name("N")
-        .help("Its number, as 12 of `refused 12`; without it all are told")
-        .value_parser(value_parser!(u8).range(1..=99))
-}
-
-fn db<'a>(alloc: Global) -> Arg<'a>
-    ensures rule { rule_of result ≡ db_rule }
-    ensures local { result.global ≡ false }
-{
-    Arg::new(alloc, "db")
-        .long("db")
-        .value_name("FILE")
-        .help("The desk's file; where there is none it is made")
-}
-
-fn shown_db<'a>(alloc: Global) -> Arg<'a>
-    ensures rule { rule_of result ≡ db_rule }
-    ensures local { result.global ≡ false }
-{
-    Arg::new(alloc, "db").long("db").value_name("FILE").help(
-        "The desk's file, which is there; without it a script is played",
-    )
-}
-
-fn part<'a>(alloc: Global) -> Arg<'a>
-    ensures rule { rule_of result ≡ part_rule }
-    ensures local { result.global ≡ false }
-{
-    Arg::new(alloc, "part")
-        .value_name("PART")
-        .help("What is told: pending, unmatched, accounts, cash or sums; without it all of them")
-        .action(ArgAction::Append)
-}
-
-fn json<'a>(alloc: Global) -> Arg<'a>
-    ensures rule { rule_of result ≡ json_rule }
-    ensures local { result.global ≡ false }
-{
-    Arg::new(alloc, "json")
-        .long("json")
-        .help("As JSON, and not as text")
-        .action(ArgAction::SetTrue)
-}
-
-fn from<'a>(alloc: Global) -> Arg<'a>
-    ensures rule { rule_of result ≡ from_rule }
-    ensures local { result.global ≡ false }
-{
-    Arg::new(alloc, "from")
-        .long("from")
-        .value_name("N")
-        .help("The number of the entry to begin with; without it the first")
-        .value_parser(value_parser!(u32).range(1..=MOST_ENTRIES_TOLD))
-}
-
-fn needed_db<'a>(alloc: Global) -> Arg<'a>
-    ensures rule { rule_of result ≡ needed_db_rule }
-    ensures local { result.global ≡ false }
-{
-    Arg::new(alloc, "db")
-        .long("db")
-        .value_name("FILE")
-        .help("The desk's file, which is there")
-        .required(true)
-}
-
-fn made_db<'a>(alloc: Global) -> Arg<'a>
-    ensures rule { rule_of result ≡ needed_db_rule }
-    ensures local { result.global ≡ false }
-{
-    Arg::new(alloc, "db")
-        .long("db")
-        .value_name("FILE")
-        .help("The desk's file; where there is none it is made")
-        .required(true)
-}
-
-fn coming_in<'a>(alloc: Global) -> Arg<'a>
-    ensures rule { rule_of result ≡ in_rule }
-    ensures local { result.global ≡ false }
-{
-    Arg::new(alloc, "in")
-        .long("in")
-        .value_name("DIR")
-        .help("The folder of the files")
-        .required(true)
-}
-
-fn going_out<'a>(alloc: Global) -> Arg<'a>
-    ensures rule { rule_of result ≡ out_rule }
-    ensures local { result.global ≡ false }
-{
-    Arg::new(alloc, "out")
-        .long("out")
-        .value_name("DIR")
-        .help("The folder of the answers, which is there")
-        .required(true)
-}
-
-fn bic<'a>(alloc: Global) -> Arg<'a>
-    ensures rule { rule_of result ≡ bic_rule }
-    ensures local { result.global ≡ false }
-{
-    Arg::new(alloc, "bic")
-        .value_name("BIC")
-        .help("The participant, as ALPHDEFF")
-        .required(true)
-}
-
-fn account<'a>(alloc: Global) -> Arg<'a>
-    ensures rule { rule_of result ≡ account_rule }
-    ensures local { result.global ≡ false }
-{
-    Arg::new(alloc, "account")
-        .value_name("ACCOUNT")
-        .help("Its account, as A-1")
-        .required(true)
-}
-
-fn port<'a>(alloc: Global) -> Arg<'a>
-    ensures rule { rule_of result ≡ port_rule }
-    ensures local { result.global ≡ false }
-{
-    Arg::new(alloc, "port")
-        .long("port")
-        .value_name("N")
-        .help("The port, 1 to 65535")
-        .required(true)
-        .value_parser(value_parser!(u16).range(1..=65535))
-}
-
-fn count<'a>(alloc: Global) -> Arg<'a>
-    ensures rule { rule_of result ≡ count_rule }
-    ensures local { result.global ≡ false }
-{
-    Arg::new(alloc, "count")
-        .long("count")
-        .value_name("N")
-        .help("How many connections are served, 1 to 1000000")
-        .required(true)
-        .value_parser(value_parser!(u32).range(1..=MOST_CONNECTIONS))
+    let arg = Arg::new(alloc, name);
+    match form {
+        Form::Place => arg.value_name(value),
+        Form::Places => arg.value_name(value).action(ArgAction::Append),
+        Form::Named => arg.value_name(value).long(name),
+        Form::Flag => arg.long(name).action(ArgAction::SetTrue),
+    }
 }
