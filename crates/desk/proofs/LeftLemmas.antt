@@ -40,15 +40,11 @@ tables_say s stage content books idle kept live same keeps = λ clean is_open.
     record { is = (live is_open).1; content = content; keeps = keeps; tables = record { desk = desk.committed; content_is = sym (same clean is_open ∙ ap content_in (desk.idle idle)) } }
 
 -- what is left of a desk its tables say
-pub said_left : {S : Type 0} (store : Stores S) (gives : Bool) (given held : Both ListRegister (Kept S)) (s : State) → held ≡ given → (view_of_both store given).room ≡ MOST_ENTRIES → IsReady gives (view_of_both store held)
-    → (held.stage ≡ Idle → (books : Books) → KeptBy (view_of_both store held) books → TablesSay s books) → PassesOn (IsLeft gives (view_of_both store given)) (AreSaid s)
-said_left {S} store gives given held s is most ready say =
-    let L : Both ListRegister (Kept S) → Bool → Books → Type 0 = λ k is_closed books. Holds is_closed (view_of_both store k) books in
-    let M : Both ListRegister (Kept S) → Type 0 = λ k. (view_of_both store k).room ≡ MOST_ENTRIES in
-    record {
-      each = λ is_closed books left stays. (let holds = subst (λ k. L k is_closed books) (sym is) left.holds in
-          say (ready.stage (left.closed ∙ stays)) books (subst (λ k. KeepsFormed k books (view_of_both store held).content) (subst M (sym is) most) (holds stays)));
-    }
+pub said_left : {S : Type 0} (store : Stores S) (gives : Bool) (held : Both ListRegister (Kept S)) (s : State) → (view_of_both store held).room ≡ MOST_ENTRIES → IsReady gives (view_of_both store held)
+    → (held.stage ≡ Idle → (books : Books) → KeptBy (view_of_both store held) books → TablesSay s books) → PassesOn (IsLeft gives (view_of_both store held)) (AreSaid s)
+said_left {S} store gives held s most ready say = record {
+  each = λ is_closed books left stays. say (ready.stage (left.closed ∙ stays)) books (subst (λ k. KeepsFormed k books (view_of_both store held).content) most (left.holds stays));
+}
 
 -- what the tables say of a connection that was closed its files say
 pub files_say : {D E : Type 0} {g : Ghosts D} (connection : Held (FileStore D g)) (r : Result (Files D) E) → IfOk r (AreClosed connection) → PassesOn (AreSaid (file_state connection)) (AreLeft g r)

@@ -6,6 +6,7 @@ ghost use Rattle.sqlite.specs.Held.{state};
 ghost use Rattle.sqlite_wal.specs.Files.{image_at};
 ghost use Rattle.desk_rules.specs.Books.{Books};
 ghost use Rattle.desk_rules.specs.declared.limits.TheConstants.{MOST_ENTRIES};
+ghost use Rattle.desk_engine.specs.Ready.{IsReady};
 ghost use Rattle.desk_opening.specs.Opened.{IsOpened, IsReadyFor, view_of_both};
 ghost use Rattle.desk.specs.Left.{AreLeft, AreSaid, IsFoundIn, IsLeft};
 ghost use Rattle.desk.specs.OverFile.{IsAsked, IsDone, IsFileAnswer, IsOpenAnswer, LeavesFiles};
@@ -16,7 +17,7 @@ use crate::answers::{
     Folders, Shown, play_desk, report_desk, serve_desk, show_on_both, take_folder,
 };
 use crate::status::{Failure, Status};
-use crate::store::{FileRegister, close_behind, open, open_there, tables_of, tell_unopened};
+use crate::store::{FileRegister, close_behind, connection_of, open, open_there, tell_unopened};
 use crate::teller::{Teller, Watch};
 use desk_book::Desk;
 use desk_codes::Bic;
@@ -142,10 +143,30 @@ fn ask_on_both<S: Alter + Drop, R: Source, W: Sink>(
     ensures asked { IsAsked ask.now MOST_ENTRIES (KeptBy (view_of_both S.Store both)) (AreSaid (state S.Store result.1)) (R.remaining reader.old) (reader.new ≡ reader.old) R.may_fail result.0 (Appends (W.contents writer.old) (W.contents writer.new)) }
     ensures failed { OnErr result.0 (W.may_fail ≡ true) }
 {
-    let mut desk = Desk::new(both);
+    let (told, is_closed, both) = ask_on(rt, both, ask, teller, reader, writer);
+    teller.look(is_closed);
+    (told, connection_of(both))
+}
+
+/// Asks the desk over a register, which is given back, with whether the desk was closed then.
+fn ask_on<D: Register + Drop, R: Source, W: Sink>(
+    rt: &HostRuntime,
+    register: D,
+    ask: &Ask<'_>,
+    teller: &mut Teller<'_>,
+    reader: &mut R,
+    writer: &mut W,
+) -> (io::Result<Status>, bool, D)
+    requires { IsReady false (D.view register) }
+    ensures asked { IsAsked ask.now (D.view register).room (AreHeld (D.view register) (D.view result.2)) (IsLeft result.1 (D.view result.2)) (R.remaining reader.old) (reader.new ≡ reader.old) R.may_fail result.0 (Appends (W.contents writer.old) (W.contents writer.new)) }
+    ensures ready { IsReady result.1 (D.view result.2) }
+    ensures room { (D.view result.2).room ≡ (D.view register).room }
+    ensures failed { OnErr result.0 (W.may_fail ≡ true) }
+{
+    let mut desk = Desk::new(register);
     let told = ask_desk(rt, &mut desk, ask, teller, reader, writer);
-    teller.look(desk.is_closed());
-    (told, tables_of(desk))
+    let is_closed = desk.is_closed();
+    (told, is_closed, desk.into_register())
 }
 
 /// Asks a desk that is open.

@@ -9,13 +9,12 @@ ghost use Rattle.desk_opening.specs.Opened.{IsOpened, view_of_both};
 ghost use Rattle.desk_rules.specs.Books.{Books};
 ghost use Rattle.desk_rules.specs.declared.limits.TheConstants.{MOST_ENTRIES};
 ghost use Rattle.desk.specs.Closed.{AreClosed};
-ghost use Rattle.desk.specs.Left.{AreLeft, AreSaid, IsFoundIn, IsLeft, PassesOn, TablesSay};
+ghost use Rattle.desk.specs.Left.{AreLeft, AreSaid, IsFoundIn, PassesOn, TablesSay};
 ghost use Rattle.desk.specs.PlayAnswer.{KeptBy};
 ghost use Rattle.desk.specs.Status.{Ends, IsFailureTold, IsOpeningFailure, IsUnopened};
 
 use crate::status::{Failure, Status, tell_failure};
 use crate::teller::Teller;
-use desk_book::Desk;
 use desk_mirror::MirroredRegister;
 use desk_opening::{OpenFault, is_live, open_file};
 use desk_rules::MOST_ENTRIES;
@@ -160,17 +159,6 @@ pub fn connection_of<S: Alter + Drop>(
     let conn = both.into_parts().1.into_connection();
     is_live(&conn);
     conn
-}
-
-/// The connection to the tables of a desk.
-pub fn tables_of<S: Alter + Drop>(
-    desk: Desk<MirroredRegister<ListRegister, SqlRegister<S>>>,
-) -> Connection<S>
-    requires { (view_of_both S.Store desk.register).room ≡ MOST_ENTRIES }
-    ensures connection { result ≡ desk.register.tables.connection }
-    ensures left { PassesOn (IsLeft desk.is_closed (view_of_both S.Store desk.register)) (AreSaid (state S.Store result)) }
-{
-    connection_of(desk.into_register())
 }
 
 /// Tells how a run over a file ended, which was closed then, or could not be. A run that ended in a fault tells no other.
