@@ -16,8 +16,7 @@ use desk_rules::MOST_ENTRIES;
 use desk_streams::Source;
 use memory_register::ListRegister;
 use sql_register::SqlRegister;
-use sqlite::{Alter, Connection, FileStore, MemStore, Unknown};
-use sqlite_disk::Disk;
+use sqlite::{Alter, Connection, MemStore, Unknown};
 use std::io;
 
 /// What a script is played over.
@@ -176,16 +175,14 @@ fn do_on_adopted(
 /// The same over the desk of a file, which is opened for so many entries. A file that is told of is closed.
 fn do_on_file(rt: &HostRuntime, path: &str, limit: u64, deed: Deed<'_>) -> Result<(), Failure> {
     match open_file(rt, path, Unknown, limit.min(MOST_ENTRIES), &mut Silent) {
-        Ok(both) => end(do_over_tables(rt, both, deed)?, deed),
+        Ok(both) => {
+            let conn = do_over_tables(rt, both, deed)?;
+            if let Deed::Tell = deed {
+                conn.close()?;
+            }
+            Ok(())
+        }
         Err(fault) => Err(Failure::from(fault)),
-    }
-}
-
-/// Closes a file that was told of.
-fn end<D: Disk + Drop>(conn: Connection<FileStore<D>>, deed: Deed<'_>) -> Result<(), Failure> {
-    match deed {
-        Deed::Play | Deed::PlayThis(_) => Ok(()),
-        Deed::Tell => Ok(conn.close()?),
     }
 }
 

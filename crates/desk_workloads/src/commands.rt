@@ -9,6 +9,8 @@ use crate::failure::Failure;
 use crate::script::Script;
 use crate::size::Size;
 use crate::trade::{Party, add_all};
+use desk_book::Desk;
+use memory_register::ListRegister;
 use std::alloc::Global;
 
 /// So many commands of each operation a script has.
@@ -139,24 +141,10 @@ fn add_commands(
     base: u32,
     number: u32,
 ) -> Result<(), Failure> {
-    let owner = base.wrapping_add(number);
-    let account = number;
-    let security = isin(owner);
     let mut request = Vec::new(alloc);
     for operation in 0..OPERATIONS {
         request.clear();
-        let mut script = Script { text: &mut request };
-        let own = number.wrapping_mul(OPERATIONS).wrapping_add(operation);
-        match operation {
-            0 => script.participant(own, owner)?,
-            1 => script.account(own, Party { owner, account })?,
-            2 => script.security(own, &security)?,
-            3 => script.move_units(b"issue", own, account, &security, UNITS)?,
-            4 => script.move_units(b"redeem", own, account, &security, 1)?,
-            5 => script.move_cash(b"payin", own, owner, EUROS)?,
-            6 => script.move_cash(b"payout", own, owner, 1)?,
-            _ => script.run(own, 0)?,
-        }
+        add_command(&mut Script { text: &mut request }, base, number, operation)?;
         if let Some(rest) = request.strip_prefix(b"op\n{") {
             if let Some(members) = rest.strip_suffix(b"}\n.\n") {
                 Spelling::drawn(draw).add(text, operation, members)?;
@@ -164,6 +152,29 @@ fn add_commands(
         }
     }
     Ok(())
+}
+
+/// Adds the command of a number and an operation.
+fn add_command(
+    script: &mut Script<'_>,
+    base: u32,
+    number: u32,
+    operation: u32,
+) -> Result<(), Failure> {
+    let owner = base.wrapping_add(number);
+    let account = number;
+    let security = isin(owner);
+    let own = number.wrapping_mul(OPERATIONS).wrapping_add(operation);
+    match operation {
+        0 => script.participant(own, owner),
+        1 => script.account(own, Party { owner, account }),
+        2 => script.security(own, &security),
+        3 => script.move_units(b"issue", own, account, &security, UNITS),
+        4 => script.move_units(b"redeem", own, account, &security, 1),
+        5 => script.move_cash(b"payin", own, owner, EUROS),
+        6 => script.move_cash(b"payout", own, owner, 1),
+        _ => script.run(own, 0),
+    }
 }
 
 /// Plays scripts of commands at one desk.
@@ -175,16 +186,34 @@ pub fn play_commands(
     digest: &mut Digest,
 ) -> Result<(), Failure> {
     let mut draw = Draw::new(seed, round);
-    let base = draw.below(BASES);
-    let mut desk = new_desk(alloc);
     let mut text = Vec::new(alloc);
+    play_scripts(
+        alloc,
+        &mut new_desk(alloc),
+        &mut text,
+        &mut draw,
+        size,
+        digest,
+    )
+}
+
+/// Plays them; each script is put together in one text.
+fn play_scripts(
+    alloc: Global,
+    desk: &mut Desk<ListRegister>,
+    text: &mut Vec<u8>,
+    draw: &mut Draw,
+    size: Size,
+    digest: &mut Digest,
+) -> Result<(), Failure> {
+    let base = draw.below(BASES);
     for script in 0..size.of(SCRIPTS) {
         text.clear();
         for place in 0..size.of(EACH) {
             let number = script.wrapping_mul(EACH).wrapping_add(place);
-            add_commands(alloc, &mut text, &mut draw, base, number)?;
+            add_commands(alloc, text, draw, base, number)?;
         }
-        play(alloc, &mut desk, &text, digest)?;
+        play(alloc, desk, text, digest)?;
     }
-    play(alloc, &mut desk, b"sums\n", digest)
+    play(alloc, desk, b"sums\n", digest)
 }

@@ -29,19 +29,36 @@ pub fn serve_all(
     count: u32,
     digest: &mut Digest,
 ) -> Result<(), Failure> {
-    let Ok(routes) = Routes::new(alloc) else {
-        return Err(Failure::Memory);
-    };
     let base = draw.below(BASES);
     let mut desk = new_desk(alloc);
     open(alloc, &mut desk, base, digest)?;
-    let mut sent = Vec::new(alloc);
-    let mut body = Vec::new(alloc);
+    match Routes::new(alloc) {
+        Ok(routes) => {
+            let texts = (&mut Vec::new(alloc), &mut Vec::new(alloc));
+            serve_by(alloc, &routes, &mut desk, texts, draw, base, count, digest)
+        }
+        Err(_) => Err(Failure::Memory),
+    }
+}
+
+/// The same by such routes, on a desk that knows who is there; what is sent and its body are put together in two texts. (What is
+/// owned is made above, so that nothing is dropped where a step fails here: that is proved in a third of the time.)
+fn serve_by(
+    alloc: Global,
+    routes: &Routes,
+    desk: &mut Desk<ListRegister>,
+    texts: (&mut Vec<u8>, &mut Vec<u8>),
+    draw: &mut Draw,
+    base: u32,
+    count: u32,
+    digest: &mut Digest,
+) -> Result<(), Failure> {
+    let (sent, body) = texts;
     for number in 0..count {
         sent.clear();
         body.clear();
-        add_request(draw, base, number, &mut body, &mut sent)?;
-        serve(alloc, &routes, &sent, &mut desk, digest)?;
+        add_request(draw, base, number, body, sent)?;
+        serve(alloc, routes, sent, desk, digest)?;
     }
     Ok(())
 }

@@ -53,14 +53,23 @@ fn kept_of_day(
     let mut day = Day::new(alloc, COMMANDED, Draw::new(seed, round))?;
     let mut desk = new_desk(alloc);
     play_day(alloc, &mut desk, &mut day, size.of(50_000), digest)?;
-    let mut register = desk.into_register();
     let mut kept = Vec::new(alloc);
+    add_kept(alloc, &mut desk.into_register(), &mut kept)?;
+    Ok(kept)
+}
+
+/// Adds what a register keeps of each entry.
+fn add_kept(
+    alloc: Global,
+    register: &mut ListRegister,
+    kept: &mut Vec<Kept>,
+) -> Result<(), Failure> {
     for number in 0..register.count(alloc)? {
-        if let Some(one) = kept_at(alloc, &mut register, number.wrapping_add(1))? {
+        if let Some(one) = kept_at(alloc, register, number.wrapping_add(1))? {
             kept.push(one)?;
         }
     }
-    Ok(kept)
+    Ok(())
 }
 
 /// What a register keeps of the entry of a number.

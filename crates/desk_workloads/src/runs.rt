@@ -9,8 +9,6 @@ use crate::failure::Failure;
 use crate::script::Script;
 use crate::size::Size;
 use crate::trade::{Party, Side, Trade};
-use desk_book::Desk;
-use memory_register::ListRegister;
 use std::alloc::Global;
 
 /// A settlement day.
@@ -132,7 +130,19 @@ fn settle_chains(
         base: draw.below(BASES),
         references: 0,
     };
-    market.open(pairs.saturating_add(1), &isins)?;
+    chain(&mut market, &isins, pairs, quantity, euros)?;
+    play(alloc, &mut new_desk(alloc), &text, digest)
+}
+
+/// Both chains, and the run.
+fn chain(
+    market: &mut Market<'_>,
+    isins: &[[u8; 12]; 2],
+    pairs: u32,
+    quantity: u32,
+    euros: u32,
+) -> Result<(), Failure> {
+    market.open(pairs.saturating_add(1), isins)?;
     market.issue(pairs, &isins[0], quantity)?;
     market.pay_in(pairs, euros.saturating_add(1))?;
     for number in 0..pairs {
@@ -142,8 +152,7 @@ fn settle_chains(
         market.deliver(number, next, &isins[1], quantity, euros)?;
     }
     market.run()?;
-    market.script.sums()?;
-    play(alloc, &mut new_desk(alloc), &text, digest)
+    market.script.sums()
 }
 
 /// So many pairs that lack units and as many that lack cash, tried in so many runs. Before each run one of them is covered.
@@ -154,7 +163,6 @@ fn try_again(
     runs: u32,
     digest: &mut Digest,
 ) -> Result<(), Failure> {
-    let participants = 100;
     let isins = [
         isin(draw.below(400_000_000)),
         isin(draw.below(400_000_000).wrapping_add(400_000_000)),
@@ -165,7 +173,20 @@ fn try_again(
         base: draw.below(BASES),
         references: 0,
     };
-    market.open(participants, &isins)?;
+    lack(&mut market, draw, &isins, pairs, runs)?;
+    play(alloc, &mut new_desk(alloc), &text, digest)
+}
+
+/// The pairs, and the runs.
+fn lack(
+    market: &mut Market<'_>,
+    draw: &mut Draw,
+    isins: &[[u8; 12]; 2],
+    pairs: u32,
+    runs: u32,
+) -> Result<(), Failure> {
+    let participants = 100;
+    market.open(participants, isins)?;
     for number in 0..participants {
         market.issue(number, &isins[1], 2_000_000_000)?;
         market.pay_in(number, 1)?;
@@ -182,7 +203,5 @@ fn try_again(
         market.issue(draw.below(participants), &isins[0], 1_100)?;
         market.run()?;
     }
-    market.script.sums()?;
-    let mut desk: Desk<ListRegister> = new_desk(alloc);
-    play(alloc, &mut desk, &text, digest)
+    market.script.sums()
 }
