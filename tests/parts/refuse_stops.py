@@ -106,7 +106,11 @@ class StoppedScript:
         sys.exit("the stops do not end")
 
     def stop(self, name):
-        """Has the machine stop everywhere."""
+        """Has the machine stop everywhere, where it comes to its end undisturbed."""
+        place, why = self.stopped(NEVER, NEVER)
+        if place is not None or why:
+            yield f"{name}, undisturbed", why or "it tells a stop"
+            return
         yield from self.stop_at_each(f"{name}, call of the log", lambda it: (it, NEVER))
         logs, needed = self.places, [OPENING, *self.changing, CLOSING]
         yield from unmet(f"{name}, the log", needed, logs)
