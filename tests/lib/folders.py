@@ -110,9 +110,9 @@ class Room:
 
 
 @contextlib.contextmanager
-def new_room(files):
-    """A room that goes behind its use."""
-    with tempfile.TemporaryDirectory() as top:
+def new_room(files, within=None):
+    """A room that goes behind its use, within a folder, or where the system has its files of a time."""
+    with tempfile.TemporaryDirectory(dir=within) as top:
         # as the system names an open file
         yield Room(os.path.realpath(top), files)
 

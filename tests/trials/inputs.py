@@ -258,7 +258,7 @@ def trials_of_reports(room):
 
 def trials_of_files(room):
     """A program is let at files, of which one is not there."""
-    for name in "files", "files_days.py", "files_odd.py":
+    for name in "files", "files_days.py", "files_killed.py", "files_odd.py":
         copy(f"tests/parts/{name}", room)
     for name in "generate", "plain":
         os.symlink(f"{TESTS}/{name}", f"{room}/tests/{name}")
@@ -296,14 +296,14 @@ OF_NOTHING = {
     "refuse memory": (["script"], "1 requests are answered: status 0, []\n"),
     "refuse http": (["script"], "status 0, [b'']\n"),
     "refuse words": (["case"], "no failure led to this"),
-    "refuse register": ([], "\n0 passed, 1 failed\n"),
+    "refuse stops": (["script"], "\n0 passed, 1 failed\n"),
     "refuse opening": (["script"], "a file is not opened: (0, b'')"),
     "refuse reports": (["/dev/null"], "the program has made no file\n"),
     "refuse disk": (["script"], "1 requests are answered: status 0, b''"),
 }
 
 # those that try nothing where no script, no case and no folder is named
-OF_SOME = ["refuse memory", "refuse http", "refuse words", "refuse disk", "cases same_tables", "http cases"]
+OF_SOME = ["refuse memory", "refuse http", "refuse words", "refuse stops", "refuse disk", "cases same_tables", "http cases"]
 
 
 def trials_of_random(room, silent):
