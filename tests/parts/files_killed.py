@@ -10,11 +10,11 @@ the opening of a file, or before all is answered of a run that is to close it, i
 Then a copy of the file and its log must be sound to Python's SQLite, and hold the entries, their replies and the sent messages
 that the plain program, tests/plain, has behind some first ones of the requests: behind those of whose answers anything was told,
 where they were served behind one more at most, behind none as the file is opened and behind all as it is closed. (A new file is
-none to SQLite until its first byte is written. The desk takes it for a new one, and here it has no entry.) What was told is the
-plain program's; in the folder of the answers those to the first files stand whole, and nothing else is changed. The journal of
-another copy is the plain program's. A new run over the file that is asked all again, from the first request of the script on,
-must answer as the plain program does behind those requests, and end well: the file stands alone and is sound, and its rows, its
-sums, its report and its journal are the plain program's.
+none to SQLite until its first byte is written. The desk takes it, with its log, for a new one; here it is not shown to SQLite,
+and has no entry.) What was told is the plain program's; in the folder of the answers those to the first files stand whole, and
+nothing else is changed. The journal of another copy is the plain program's. A new run over the file that is asked all again,
+from the first request of the script on, must answer as the plain program does behind those requests, and end well: the file
+stands alone and is sound, and its rows, its sums, its report and its journal are the plain program's.
 
 Each kill counts, and, where there are enough, that one each hit a script, requests and a folder of which a part was done. What is
 found wrong is written out, with the file as the kill left it."""
