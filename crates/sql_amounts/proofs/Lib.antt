@@ -11,5 +11,6 @@ mod EntryLemmas
 mod FormLemmas
 mod ComparedRows
 mod SaidLemmas
+mod StepLemmas
 mod TextLemmas
 pub mod WalkLemmas

@@ -1,14 +1,15 @@
-use Rattle.std.proofs.Common.{ℕ, ◌<◌, get_or, slice_index_or, sym, ◌∙◌}
+use Rattle.std.proofs.Common.{ℕ, ◌<◌, get_or, slice_index_or, sym, ◌∙◌, arith}
 use Rattle.sqlite.specs.Held.{state}
 use Rattle.desk_codes.specs.declared.currency.Ccy.{Ccy}
 use Rattle.desk_codes.specs.declared.currency.Ccy.TheVariants.{Chf}
 use Rattle.desk_codes.specs.declared.currency.TheConstants.{CURRENCIES}
-use Rattle.desk_register.proofs.ReadLemmas.{read_more}
+use Rattle.desk_register.proofs.ReadLemmas.{read_idle, read_more, read_none}
 use Rattle.sql_amounts.specs.declared.key.AmountKey.TheVariants.{Cash}
 use Rattle.sql_amounts.specs.Amounts.{AreAmounts}
-use Rattle.sql_tables.proofs.LookLemmas.{look_more}
+use Rattle.sql_tables.proofs.LookLemmas.{look_more, look_none}
 use Rattle.sql_amounts.specs.Recorded.{IsRecorded, SaysAll}
-use Rattle.sql_amounts.proofs.WalkLemmas.{found_so, in_turn, look_failed, next_currency}
+use Rattle.sql_amounts.proofs.StepLemmas.{cause_later_so, none_told}
+use Rattle.sql_amounts.proofs.WalkLemmas.{found_so, in_turn, look_failed, next_currency, read_failed}
 use Rattle.sql_amounts.proofs.compared.recorded.are_cash_recorded.Goals as goal
 
 pub returns-in_err-is_recorded-clause-look : goal.returns-in_err-is_recorded-clause-look
@@ -47,3 +48,34 @@ returns-then-not-branch-clause-exact g c = λ clean is_open has honest sure all.
     sym c.if-not-branch.true ∙ found_so (state g.S.Store c.args.conn.now) (state g.S.Store c.loop-ccy.conn) (state g.S.Store c.is_recorded.new.conn)
     (g.R.Register.view c.args.register.now) (g.R.Register.view c.loop-ccy.register) (g.R.Register.view c.is_recorded.new.register)
     i.look i.read so.look.later so.read.later SaysAll so.exact clean is_open has honest sure all
+
+pub loop-ccy-init : goal.loop-ccy-init
+loop-ccy-init g c = record {
+  look = look_none tt (state g.S.Store c.args.conn.now);
+  read = read_none (g.R.Register.view c.args.register.now);
+  said = λ clean is_open has honest sure amounts k d low. absurd (omega (arith, low));
+}
+
+pub is_recorded-requires : goal.is_recorded-requires
+is_recorded-requires g c = record { stage = read_idle (g.R.Register.view c.args.register.now) (g.R.Register.view c.loop-ccy.register) c.loop-ccy.invariant.read c.requires.stage }
+
+pub returns-in_err-is_recorded-clause-says : goal.returns-in_err-is_recorded-clause-says
+returns-in_err-is_recorded-clause-says g c = λ clean is_open has honest sure amounts. none_told c.in_err-is_recorded.field-0.0 c.from_residual.result c.from_residual.ensures.1 _
+
+pub returns-in_err-is_recorded-clause-exact : goal.returns-in_err-is_recorded-clause-exact
+returns-in_err-is_recorded-clause-exact g c = λ clean is_open has honest sure all. none_told c.in_err-is_recorded.field-0.0 c.from_residual.result c.from_residual.ensures.1 _
+
+pub returns-in_err-is_recorded-clause-blame : goal.returns-in_err-is_recorded-clause-blame
+returns-in_err-is_recorded-clause-blame g c = cause_later_so AreAmounts c.in_err-is_recorded.field-0.0 c.from_residual.result c.from_residual.ensures.1 (state g.S.Store c.args.conn.now) (state g.S.Store c.loop-ccy.conn) (state g.S.Store c.is_recorded.new.conn) c.loop-ccy.invariant.look c.in_err-is_recorded.ensures.look.later c.in_err-is_recorded.ensures.blame
+
+pub returns-in_err-is_recorded-clause-read : goal.returns-in_err-is_recorded-clause-read
+returns-in_err-is_recorded-clause-read g c = read_failed c.in_err-is_recorded.field-0.0 c.from_residual.result c.from_residual.ensures.1 (g.R.Register.view c.args.register.now) (g.R.Register.view c.loop-ccy.register) (g.R.Register.view c.is_recorded.new.register) c.loop-ccy.invariant.read c.in_err-is_recorded.ensures.read
+
+pub returns-then-not-branch-clause-look : goal.returns-then-not-branch-clause-look
+returns-then-not-branch-clause-look g c = look_more tt (state g.S.Store c.args.conn.now) (state g.S.Store c.loop-ccy.conn) (state g.S.Store c.is_recorded.new.conn) c.loop-ccy.invariant.look c.in_ok-is_recorded.ensures.look
+
+pub returns-then-not-branch-clause-read : goal.returns-then-not-branch-clause-read
+returns-then-not-branch-clause-read g c = read_more tt (g.R.Register.view c.args.register.now) (g.R.Register.view c.loop-ccy.register) (g.R.Register.view c.is_recorded.new.register) c.loop-ccy.invariant.read c.in_ok-is_recorded.ensures.read
+
+pub returns-clause-says : goal.returns-clause-says
+returns-clause-says g c = λ clean is_open has honest sure amounts yes k d low. c.loop-ccy.invariant.said clean is_open has honest sure amounts k d (omega (arith, low))
