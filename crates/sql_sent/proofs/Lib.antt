@@ -5,6 +5,7 @@ pub mod InsertLemmas
 pub mod LookedLemmas
 pub mod MessageLemmas
 pub mod RowLemmas
+mod StepLemmas
 pub mod TableLemmas
 pub mod TextLemmas
 pub mod WalkLemmas
