@@ -9,15 +9,19 @@ mod DecisionLemmas
 mod FinishLemmas
 mod InstructLemmas
 mod KeepsLemmas
+mod NextLemmas
 mod PassLemmas
 mod PassSteps
 mod PassWhole
+mod RefusalLemmas
+mod ReplayLemmas
 mod ReplyLemmas
 mod SendingLemmas
 mod SentLemmas
 mod ShortLemmas
 pub mod SoundLemmas
 pub mod RunningLemmas
+mod StepEnds
 mod StepLaws
 mod StepLemmas
 mod TryingLemmas
@@ -25,3 +29,4 @@ mod WaitingLemmas
 mod WithinLimits
 pub mod KeptHistoryLemmas
 mod TakenLemmas
+mod TakingLemmas

@@ -1,5 +1,6 @@
 use Rattle.std.proofs.Common.{◌∙◌}
 use Rattle.desk_engine.proofs.SoundLemmas.{kept_sound, left_sound}
+use Rattle.desk_engine.proofs.TakingLemmas.{recovered_blame, recovered_later, recovered_left}
 use Rattle.desk_engine.proofs.accepting.accept.Goals as goal
 
 pub returns-in-Err-clause-sound : goal.returns-in-Err-clause-sound
@@ -31,3 +32,18 @@ returns-in-Err-put-clause-sound g c = λ books honest sure keeps formed one.
     let honest1 = broke.later.honest honest2 in
     left_sound v0 (g.R.Register.view c.take_back.new.register) v2.mark books c.args.entry c.take_back.result keeps formed honest
     (λ shown. broke.err.mark honest2 (r.later.sure honest shown) ∙ begins.mark honest1 sure) r.left
+
+pub returns-in-Err-clause-err : goal.returns-in-Err-clause-err
+returns-in-Err-clause-err g c =
+    let begun = c.in-Err.ensures in
+    recovered_left (g.R.Register.view c.args.register.now) (g.R.Register.view c.begin.new.self) (g.R.Register.view c.recover.new.register) c.in-Err.fault c.recover.result c.requires.stage begun.err begun.later c.recover.ensures.recovers
+
+pub returns-in-Err-clause-later : goal.returns-in-Err-clause-later
+returns-in-Err-clause-later g c =
+    let begun = c.in-Err.ensures in
+    recovered_later (g.R.Register.view c.args.register.now) (g.R.Register.view c.begin.new.self) (g.R.Register.view c.recover.new.register) c.in-Err.fault c.recover.result c.requires.stage begun.err begun.later c.recover.ensures.recovers
+
+pub returns-in-Err-clause-blame : goal.returns-in-Err-clause-blame
+returns-in-Err-clause-blame g c =
+    let begun = c.in-Err.ensures in
+    recovered_blame (g.R.Register.view c.args.register.now) (g.R.Register.view c.begin.new.self) (g.R.Register.view c.recover.new.register) c.in-Err.fault c.recover.result c.requires.stage begun.err begun.later c.recover.ensures.recovers begun.blame

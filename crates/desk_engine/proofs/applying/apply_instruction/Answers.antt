@@ -1,6 +1,8 @@
 use Rattle.std.proofs.Common.{◌≡◌, refl, ◌∙◌, rules}
 use Rattle.std.specs.Prelude.{Err}
 use Rattle.desk_engine.proofs.AcceptingLemmas.{accepted_still, read_fails, want_step, instructed_step, number_after, room_of}
+use Rattle.desk_engine.proofs.StepEnds.{goes_well, read_breaks, step_breaks}
+use Rattle.desk_register.proofs.ViewLemmas.{later_then, stays_then}
 use Rattle.desk_engine.proofs.applying.apply_instruction.Goals as goal
 
 pub add_instruction-requires-clause-number : goal.add_instruction-requires-clause-number
@@ -41,14 +43,64 @@ add_instruction-requires-clause-accepted g c = λ honest sure.
     let sure0 = r.read.later.sure honest1 sure1 in
     accepted_still (g.R.Register.view c.args.register.now) (g.R.Register.view c.first_opposite.new.self) _ (c.requires.accepted honest0 sure0) (f.same honest sure1 ∙ r.read.same honest1 sure0) (f.later.room ∙ r.read.later.room)
 
-pub returns-in_err-reply-clause-step : goal.returns-in_err-reply-clause-step
-returns-in_err-reply-clause-step g c =
-    let r = c.in_ok-number.ensures.read in
-    let f = c.in_ok-mate.ensures.read in
-    let is : c.from_residual-in_err-reply.result ≡ Err c.in_err-reply.field-0.0 = search rules in
-    rw is (want_step c.in_err-reply.field-0.0 (g.R.Register.view c.args.register.now) (g.R.Register.view c.next_number.new.register) (g.R.Register.view c.first_opposite.new.self) c.requires.stage r.ok r.later f.ok f.later c.in_err-reply.ensures.memory)
-
 pub returns-in_err-number-clause-step : goal.returns-in_err-number-clause-step
 returns-in_err-number-clause-step g c =
+    let v0 = g.R.Register.view c.args.register.now in
+    let v1 = g.R.Register.view c.next_number.new.register in
     let is : c.from_residual.result ≡ Err c.in_err-number.field-0.0 = search rules in
-    rw is (read_fails c.in_err-number.field-0.0 (g.R.Register.view c.args.register.now) (g.R.Register.view c.next_number.new.register) c.requires.stage c.in_err-number.ensures.read)
+    rw is (read_fails c.in_err-number.field-0.0 v0 v1 c.requires.stage c.in_err-number.ensures.read)
+
+pub returns-in_err-mate-clause-step : goal.returns-in_err-mate-clause-step
+returns-in_err-mate-clause-step g c =
+    let v0 = g.R.Register.view c.args.register.now in
+    let v1 = g.R.Register.view c.next_number.new.register in
+    let v2 = g.R.Register.view c.first_opposite.new.self in
+    let r = c.in_ok-number.ensures.read in
+    let is : c.from_residual-in_err-mate.result ≡ Err c.in_err-mate.field-0.0 = search rules in
+    rw is (read_breaks v0 v1 v2 r.ok r.later c.in_err-mate.field-0.0 c.requires.stage c.in_err-mate.ensures.read)
+
+pub returns-in_err-reply-clause-step : goal.returns-in_err-reply-clause-step
+returns-in_err-reply-clause-step g c =
+    let v0 = g.R.Register.view c.args.register.now in
+    let v1 = g.R.Register.view c.next_number.new.register in
+    let v2 = g.R.Register.view c.first_opposite.new.self in
+    let r = c.in_ok-number.ensures.read in
+    let p = c.in_ok-mate.ensures.read in
+    let is : c.from_residual-in_err-reply.result ≡ Err c.in_err-reply.field-0.0 = search rules in
+    rw is (want_step c.in_err-reply.field-0.0 v0 v1 v2 c.requires.stage r.ok r.later p.ok p.later c.in_err-reply.ensures.memory)
+
+pub returns-in_err-kept-clause-step : goal.returns-in_err-kept-clause-step
+returns-in_err-kept-clause-step g c =
+    let v0 = g.R.Register.view c.args.register.now in
+    let v1 = g.R.Register.view c.next_number.new.register in
+    let v2 = g.R.Register.view c.first_opposite.new.self in
+    let r = c.in_ok-number.ensures.read in
+    let p = c.in_ok-mate.ensures.read in
+    let is : c.from_residual-in_err-kept.result ≡ Err c.in_err-kept.field-0.0 = search rules in
+    rw is (want_step c.in_err-kept.field-0.0 v0 v1 v2 c.requires.stage r.ok r.later p.ok p.later c.in_err-kept.ensures.memory)
+
+pub returns-in_err-add_instruction-clause-step : goal.returns-in_err-add_instruction-clause-step
+returns-in_err-add_instruction-clause-step g c =
+    let v0 = g.R.Register.view c.args.register.now in
+    let v1 = g.R.Register.view c.next_number.new.register in
+    let v2 = g.R.Register.view c.first_opposite.new.self in
+    let v3 = g.R.Register.view c.add_instruction.new.register in
+    let r = c.in_ok-number.ensures.read in
+    let p = c.in_ok-mate.ensures.read in
+    let stays = stays_then v0 v1 v2 r.ok r.later p.later p.ok in
+    let before = later_then v0 v1 v2 r.ok r.later p.later in
+    let is : c.from_residual-in_err-add_instruction.result ≡ Err c.in_err-add_instruction.field-0.0 = search rules in
+    rw is (step_breaks v0 v2 v3 stays before c.in_err-add_instruction.field-0.0 c.in_err-add_instruction.ensures.step)
+
+pub returns-clause-step : goal.returns-clause-step
+returns-clause-step g c =
+    let v0 = g.R.Register.view c.args.register.now in
+    let v1 = g.R.Register.view c.next_number.new.register in
+    let v2 = g.R.Register.view c.first_opposite.new.self in
+    let v3 = g.R.Register.view c.add_instruction.new.register in
+    let r = c.in_ok-number.ensures.read in
+    let p = c.in_ok-mate.ensures.read in
+    let stays = stays_then v0 v1 v2 r.ok r.later p.later p.ok in
+    let before = later_then v0 v1 v2 r.ok r.later p.later in
+    let add = c.in_ok-add_instruction.ensures.step in
+    goes_well v0 v2 v3 stays before _ add.later add.ok

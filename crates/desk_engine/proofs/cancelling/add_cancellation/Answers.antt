@@ -1,6 +1,7 @@
 use Rattle.std.proofs.Common.{refl}
 use Rattle.std.specs.Prelude.{Ok}
 use Rattle.desk_rules.specs.declared.history.entry.Entry.TheVariants.{Cancel}
+use Rattle.desk_register.proofs.ViewLemmas.{change_ok, change_then}
 use Rattle.desk_engine.specs.declared.cancelling.CallsOff.TheVariants.{Alone, Both, Nothing}
 use Rattle.desk_engine.proofs.AppendLemmas.{can_add}
 use Rattle.desk_engine.proofs.CancelLemmas.{cancel_fits, cancel_pair_fits, cancelled_ok}
@@ -57,3 +58,18 @@ returns-in-Nothing-clause-tables g c = λ books honest sure tables.
     let v1 = g.R.Register.view c.append.new.self in
     cancelled_ok v0.room books v0.content v1.content v1.content c.args.sender c.args.order c.args.reply c.args.off (Nothing c.in-Nothing.field-0)
     (Ok tt) c.in-Nothing.is tables (c.requires.accepted honest0 sure) (c.requires.off honest0 sure) (a.added honest sure) refl
+
+pub returns-in-Alone-clause-change : goal.returns-in-Alone-clause-change
+returns-in-Alone-clause-change g c =
+    let a = c.in_ok-append.ensures.change in
+    change_then (g.R.Register.view c.args.register.now) (g.R.Register.view c.append.new.self) (g.R.Register.view c.cancel.new.self) a.ok a.later c.cancel.result c.requires.stage c.cancel.ensures.change
+
+pub returns-in-Both-clause-change : goal.returns-in-Both-clause-change
+returns-in-Both-clause-change g c =
+    let a = c.in_ok-append.ensures.change in
+    change_then (g.R.Register.view c.args.register.now) (g.R.Register.view c.append.new.self) (g.R.Register.view c.cancel_pair.new.self) a.ok a.later c.cancel_pair.result c.requires.stage c.cancel_pair.ensures.change
+
+pub returns-in-Nothing-clause-change : goal.returns-in-Nothing-clause-change
+returns-in-Nothing-clause-change g c =
+    let a = c.in_ok-append.ensures.change in
+    change_ok _ (g.R.Register.view c.args.register.now) (g.R.Register.view c.append.new.self) a.ok a.later

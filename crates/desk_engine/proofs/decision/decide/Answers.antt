@@ -1,5 +1,8 @@
-use Rattle.std.proofs.Common.{sym, subst, ◌∙◌, ap, ◌≢◌}
+use Rattle.std.proofs.Common.{◌≡◌, sym, subst, ◌∙◌, ap, ◌≢◌, rules}
+use Rattle.std.specs.Prelude.{Err}
 use Rattle.desk_register.specs.declared.register.Stage.TheVariants.{Failed}
+use Rattle.desk_register.proofs.ReadLemmas.{read_more, read_ok, read_one, read_then}
+use Rattle.desk_register.proofs.ReadingLemmas.{broke_off, read_so}
 use Rattle.desk_rules.specs.Content.{history_of}
 use Rattle.desk_rules.specs.Tables.{AreTables}
 use Rattle.desk_engine.proofs.DecisionLemmas.{verdict_known, verdict_new_ok}
@@ -35,3 +38,28 @@ returns-clause-verdict g c = λ books honest sure well tables.
     (rw same (sym (first.value honest1 sure well) ∙ c.if-branch.false))
     (rw same (rw same1 at new))
     (c.verdict_on_new.ensures.value honest (second.read.ok.sure honest2 sure1) well2)
+
+pub returns-then-branch-clause-read : goal.returns-then-branch-clause-read
+returns-then-branch-clause-read g c = read_ok _ _ (g.R.Register.view c.args.register.now) (g.R.Register.view c.is_from_stranger.new.register) c.in_ok-is_from_stranger.ensures.read
+
+pub returns-in_err-verdict-clause-read : goal.returns-in_err-verdict-clause-read
+returns-in_err-verdict-clause-read g c =
+    let v0 = g.R.Register.view c.args.register.now in
+    let v1 = g.R.Register.view c.is_from_stranger.new.register in
+    let is : c.from_residual-in_err-verdict.result ≡ Err c.in_err-verdict.field-0.0 = search rules in
+    rw is (broke_off v0 v1 (read_one _ v0 v1 c.in_ok-is_from_stranger.ensures.read) c.in_err-verdict.field-0.0 (g.R.Register.view c.verdict_on_key.new.register) c.in_err-verdict.ensures.read)
+
+pub returns-in-Some-clause-read : goal.returns-in-Some-clause-read
+returns-in-Some-clause-read g c =
+    let v0 = g.R.Register.view c.args.register.now in
+    let v1 = g.R.Register.view c.is_from_stranger.new.register in
+    let v2 = g.R.Register.view c.verdict_on_key.new.register in
+    read_so v0 v2 (read_more _ v0 v1 v2 (read_one _ v0 v1 c.in_ok-is_from_stranger.ensures.read) c.in_ok-verdict.ensures.read) _
+
+pub returns-clause-read : goal.returns-clause-read
+returns-clause-read g c =
+    let v0 = g.R.Register.view c.args.register.now in
+    let v1 = g.R.Register.view c.is_from_stranger.new.register in
+    let v2 = g.R.Register.view c.verdict_on_key.new.register in
+    let so_far = read_more _ v0 v1 v2 (read_one _ v0 v1 c.in_ok-is_from_stranger.ensures.read) c.in_ok-verdict.ensures.read in
+    read_then v0 v2 (g.R.Register.view c.verdict_on_new.new.register) so_far c.verdict_on_new.result c.verdict_on_new.ensures.read

@@ -4,6 +4,8 @@ use Rattle.std.proofs.lemmas.Bool.{ltb-true}
 use Rattle.desk_register.specs.declared.register.Fault.TheVariants.{Storage}
 use Rattle.desk_engine.specs.declared.settlement_run.Ran.{Ran}
 use Rattle.desk_register.proofs.ViewLemmas.{stays_then, later_then}
+use Rattle.desk_rules.specs.Content.{Content}
+use Rattle.desk_engine.proofs.StepEnds.{goes_well, step_breaks}
 use Rattle.desk_engine.proofs.StepLaws.{gives_up}
 use Rattle.desk_engine.proofs.TryingLemmas.{trying_begins, trying_goes_on, trying_can_try, trying_ends, trying_ends_so, trying_settles_few}
 use Rattle.desk_engine.proofs.settlement_run.run_pass.Goals as goal
@@ -60,3 +62,29 @@ returns-in-None-clause-ran g c = λ books reference rule start honest sure made.
     rw (last, waiting)
     (trying_ends v0.room v0 (g.R.Register.view c.pairs.register) c.args.day _ c.pairs.place c.pairs.tried c.pairs.settled c.pairs.invariant (g.R.Register.view c.take.new.register) c.due_in-due.result c.args.before books reference rule start
     c.due_in-due.ensures.first c.due_in-due.ensures.further (λ is. ltb-true 0 c.args.before.passes is) t.step.later (rw c.in-None.is at t.taken) honest sure made)
+
+pub returns-in_err-take-clause-step : goal.returns-in_err-take-clause-step
+returns-in_err-take-clause-step g c =
+    let v0 = g.R.Register.view c.args.register.now in
+    let v1 = g.R.Register.view c.pairs.register in
+    let v2 = g.R.Register.view c.take.new.register in
+    let i = c.pairs.invariant in
+    let is : c.from_residual.result ≡ Err c.in_err-take.field-0.0 = search rules in
+    rw is (step_breaks v0 v1 v2 i.stays i.later c.in_err-take.field-0.0 c.in_err-take.ensures.step)
+
+pub returns-in-None-clause-kept : goal.returns-in-None-clause-kept
+returns-in-None-clause-kept g c = λ honest sure.
+    let i = c.pairs.invariant in
+    let t = c.in_ok-take.ensures in
+    let honest1 = t.step.later.honest honest in
+    let taken = rw c.in-None.is at (t.taken honest (i.stays.sure honest1 sure)) in
+    ap (λ (z : Content). z.register) taken.1 ∙ i.kept honest1 sure
+
+pub returns-in-None-clause-step : goal.returns-in-None-clause-step
+returns-in-None-clause-step g c =
+    let v0 = g.R.Register.view c.args.register.now in
+    let v1 = g.R.Register.view c.pairs.register in
+    let v2 = g.R.Register.view c.take.new.register in
+    let i = c.pairs.invariant in
+    let t = c.in_ok-take.ensures.step in
+    goes_well v0 v1 v2 i.stays i.later _ t.later t.ok

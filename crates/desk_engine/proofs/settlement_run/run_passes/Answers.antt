@@ -1,5 +1,7 @@
-use Rattle.std.proofs.Common.{refl, sym, ◌≤◌, ◌∙◌, arith}
+use Rattle.std.proofs.Common.{◌≡◌, rules, refl, sym, ◌≤◌, ◌∙◌, arith}
 use Rattle.desk_register.specs.declared.register.Fault.TheVariants.{Storage}
+use Rattle.std.specs.Prelude.{Err}
+use Rattle.desk_engine.proofs.StepEnds.{goes_well, step_breaks}
 use Rattle.desk_engine.proofs.StepLaws.{gives_up}
 use Rattle.desk_engine.proofs.RunningLemmas.{passing_begins, passing_can_go, passing_number, passing_goes_on, passing_ends, passing_ends_so, makes_another, makes_no_other}
 use Rattle.desk_engine.proofs.settlement_run.run_passes.Goals as goal
@@ -43,3 +45,28 @@ returns-clause-step g c =
     let all : c.args.number ≤ c.passes._begun = omega arith in
     gives_up Storage v0 v c.requires.stage i.stays i.later
     (passing_ends_so v0.room v0 v c.args.day c.args.rule c.passes._begun c.args.number c.passes.ran refl i c.requires.tables c.requires.number all)
+
+pub returns-in_err-ran-clause-step : goal.returns-in_err-ran-clause-step
+returns-in_err-ran-clause-step g c =
+    let v0 = g.R.Register.view c.args.register.now in
+    let v1 = g.R.Register.view c.passes.register in
+    let v2 = g.R.Register.view c.run_pass.new.register in
+    let i = c.passes.invariant in
+    let is : c.from_residual.result ≡ Err c.in_err-ran.field-0.0 = search rules in
+    rw is (step_breaks v0 v1 v2 i.stays i.later c.in_err-ran.field-0.0 c.in_err-ran.ensures.step)
+
+pub returns-then-not-makes_another-clause-kept : goal.returns-then-not-makes_another-clause-kept
+returns-then-not-makes_another-clause-kept g c = λ honest sure.
+    let i = c.passes.invariant in
+    let p = c.in_ok-ran.ensures in
+    let honest1 = p.step.later.honest honest in
+    p.kept honest (i.stays.sure honest1 sure) ∙ i.kept honest1 sure
+
+pub returns-then-not-makes_another-clause-step : goal.returns-then-not-makes_another-clause-step
+returns-then-not-makes_another-clause-step g c =
+    let v0 = g.R.Register.view c.args.register.now in
+    let v1 = g.R.Register.view c.passes.register in
+    let v2 = g.R.Register.view c.run_pass.new.register in
+    let i = c.passes.invariant in
+    let p = c.in_ok-ran.ensures.step in
+    goes_well v0 v1 v2 i.stays i.later _ p.later p.ok
