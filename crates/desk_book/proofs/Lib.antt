@@ -1,5 +1,6 @@
 pub mod HeadlineLemmas
 pub mod RunLemmas
+mod PlayEnds
 mod PlayLemmas
 pub mod FormedLemmas
 pub mod AnsweringLemmas
@@ -27,3 +28,5 @@ mod OneStep
 pub mod ListedLemmas
 pub mod CashLemmas
 pub mod SummingLemmas
+mod ReadEnds
+mod EndsLemmas

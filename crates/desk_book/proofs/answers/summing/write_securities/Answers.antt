@@ -2,7 +2,9 @@
 use Rattle.std.proofs.Common.{◌≤◌, ◌∙◌, arith}
 use Rattle.desk_register.proofs.ViewLemmas.{idle_goes}
 use Rattle.desk_register.proofs.ReadLemmas.{read_more, read_one}
+use Rattle.desk_register.proofs.ReadingLemmas.{broke_off, read_so}
 use Rattle.desk_book.proofs.SummingLemmas.{listing_begins, listing_breaks, listing_ends_all, listing_ends_none, listing_fails, listing_goes_on, nothing_listed, register_failed}
+use Rattle.desk_book.proofs.ReadEnds.{fault_after}
 use Rattle.desk_book.proofs.TellingLemmas.{walk_broke}
 use Rattle.desk_book.proofs.answers.summing.write_securities.Goals as goal
 
@@ -64,3 +66,30 @@ returns-clause-written g c = λ books honest sure keeps.
     let all : c.in_ok-count.count ≤ c.securities._told = omega arith in
     listing_ends_all (g.R.Register.view c.args.register.now) (g.R.Register.view c.securities.register) c.in_ok-count.count c.securities.last c.securities._told (g.W.Write.contents c.args.writer.now)
     (g.W.Write.contents c.securities.writer) c.securities.invariant all honest sure
+
+pub returns-in_err-count-clause-read : goal.returns-in_err-count-clause-read
+returns-in_err-count-clause-read g c =
+    let v0 = g.R.Register.view c.args.register.now in
+    let v1 = g.R.Register.view c.count.new.self in
+    fault_after _ c.in_err-count.field-0.0 c.from_residual.result v0 v1 c.from_residual.ensures.1 c.in_err-count.ensures.read
+
+pub returns-in_err-isin-clause-read : goal.returns-in_err-isin-clause-read
+returns-in_err-isin-clause-read g c =
+    let v0 = g.R.Register.view c.args.register.now in
+    let v1 = g.R.Register.view c.securities.register in
+    let v2 = g.R.Register.view c.security_after.new.self in
+    let broke = broke_off v0 v1 c.securities.invariant.read {Y = Unit {0}} c.in_err-isin.field-0.0 v2 c.in_err-isin.ensures.read in
+    fault_after (Unit {0}) c.in_err-isin.field-0.0 c.from_residual-in_err-isin.result v0 v2 c.from_residual-in_err-isin.ensures.1 broke
+
+pub returns-in_default-clause-read : goal.returns-in_default-clause-read
+returns-in_default-clause-read g c =
+    let v0 = g.R.Register.view c.args.register.now in
+    let v1 = g.R.Register.view c.securities.register in
+    let v2 = g.R.Register.view c.security_after.new.self in
+    read_so v0 v2 (read_more _ v0 v1 v2 c.securities.invariant.read c.in_ok-isin.ensures.read) tt
+
+pub returns-clause-read : goal.returns-clause-read
+returns-clause-read g c =
+    let v0 = g.R.Register.view c.args.register.now in
+    let v1 = g.R.Register.view c.securities.register in
+    read_so v0 v1 c.securities.invariant.read tt
