@@ -1,5 +1,6 @@
 pub mod ContentFacts
 pub mod GoneLemmas
+mod HandedLemmas
 pub mod HistoryFacts
 pub mod KeptLemmas
 pub mod PartLemmas

@@ -6,14 +6,16 @@ use Rattle.sqlite.specs.State.{HasCleanDisk}
 use Rattle.sql_tables.specs.Ends.{IsSame}
 use Rattle.sql_tables.specs.Schema.{desk_schema, register_table}
 use Rattle.sql_tables.specs.Forms.{HasForm}
-use Rattle.sql_tables.proofs.LookLemmas.{look_more}
+use Rattle.sql_tables.proofs.LookLemmas.{look_more, look_none}
 use Rattle.sql_amounts.proofs.WalkLemmas.{cause_failed}
 use Rattle.audit_desk.specs.declared.register.Step.{Step}
 use Rattle.sql_tables.specs.declared.compared.TheConstants.{MOST}
 use Rattle.sql_tables.specs.ByNumber.{HasNoOther}
+use Rattle.audit_desk.specs.declared.register.Reading.{Reading}
 use Rattle.audit_desk.specs.declared.register.Reading.TheVariants.{Whole}
 use Rattle.audit_desk.specs.Reading.{HoldsFormed, HoldsRows, TakesRow}
-use Rattle.audit_desk.proofs.ReadingLemmas.{again, formed_again, is_read, more_held}
+use Rattle.audit_desk.proofs.ReadingLemmas.{again, formed_again, is_read, more_held, none_formed, none_held}
+use Rattle.audit_desk.proofs.HandedLemmas.{blame_fell, blame_none, blame_told, cause_told_then, done_none, later_more, later_none, look_fell, look_told_then, no_answer, not_done}
 use Rattle.audit_desk.proofs.TakingLemmas.{done_then}
 use Rattle.audit_desk.proofs.register.read_register.Goals as goal
 
@@ -114,3 +116,170 @@ returns-in_err-read_entry-clause-cause g c clean is_open has =
     let same : IsSame s0 s1 = i.look.ok clean1 is_open has in
     cause_failed Step c.in_err-read_entry.field-0.0 c.from_residual.result c.from_residual.ensures.1 s0 s1 s2 i.look.later later
     (c.in_err-read_entry.ensures.cause clean same.is_open (ap (λ (d : Database). d.schema) same.now ∙ has))
+
+pub loop-before-init : goal.loop-before-init
+loop-before-init g c =
+    let s0 = state g.S.Store c.args.conn.now in
+    let v0 = g.R.Register.view c.args.register.now in
+    record {
+      look = look_none tt s0;
+      done = done_none v0 c.requires.stage;
+      later = later_none v0;
+      holds = λ honest sure. none_formed v0.room v0.content (c.requires.empty honest sure);
+      rows = λ clean is_open has honest sure formed. none_held (s0.now.trees 6) v0.room v0.content (c.requires.empty honest sure);
+    }
+
+pub returns-in_err-read_entry-clause-entries : goal.returns-in_err-read_entry-clause-entries
+returns-in_err-read_entry-clause-entries g c clean is_open has honest sure order formed = no_answer c.from_residual.result _ _ c.from_residual.ensures.1
+
+pub returns-in_err-read_entry-clause-holds : goal.returns-in_err-read_entry-clause-holds
+returns-in_err-read_entry-clause-holds g c honest sure = no_answer c.from_residual.result _ _ c.from_residual.ensures.1
+
+pub returns-in_err-read_entry-clause-look : goal.returns-in_err-read_entry-clause-look
+returns-in_err-read_entry-clause-look g c =
+    let s0 = state g.S.Store c.args.conn.now in
+    let s1 = state g.S.Store c.loop-before.conn in
+    let s2 = state g.S.Store c.read_entry.new.conn in
+    look_fell Step c.in_err-read_entry.field-0.0 c.from_residual.result c.from_residual.ensures.1 s0 s1 s2 c.loop-before.invariant.look c.in_err-read_entry.ensures.look
+
+pub returns-in_err-read_entry-clause-done : goal.returns-in_err-read_entry-clause-done
+returns-in_err-read_entry-clause-done g c = not_done c.from_residual.result _ _ c.from_residual.ensures.1
+
+pub returns-in_err-read_entry-clause-later : goal.returns-in_err-read_entry-clause-later
+returns-in_err-read_entry-clause-later g c =
+    let v0 = g.R.Register.view c.args.register.now in
+    let v1 = g.R.Register.view c.loop-before.register in
+    let v2 = g.R.Register.view c.read_entry.new.register in
+    later_more v0 v1 v2 c.loop-before.invariant.later c.in_err-read_entry.ensures.later
+
+pub returns-in_err-read_entry-clause-blame : goal.returns-in_err-read_entry-clause-blame
+returns-in_err-read_entry-clause-blame g c kept =
+    let v0 = g.R.Register.view c.args.register.now in
+    let v1 = g.R.Register.view c.loop-before.register in
+    let v2 = g.R.Register.view c.read_entry.new.register in
+    let i = c.loop-before.invariant in
+    blame_fell Step c.in_err-read_entry.field-0.0 c.from_residual.result c.from_residual.ensures.1 v0 v1 v2 i.done i.later c.in_err-read_entry.ensures.later (c.in_err-read_entry.ensures.blame kept)
+
+pub returns-in-Another-clause-look : goal.returns-in-Another-clause-look
+returns-in-Another-clause-look g c =
+    let s0 = state g.S.Store c.args.conn.now in
+    let s1 = state g.S.Store c.loop-before.conn in
+    let s2 = state g.S.Store c.read_entry.new.conn in
+    look_more tt s0 s1 s2 c.loop-before.invariant.look c.in_ok-read_entry.ensures.look
+
+pub returns-in-Another-clause-done : goal.returns-in-Another-clause-done
+returns-in-Another-clause-done g c =
+    let v0 = g.R.Register.view c.args.register.now in
+    let v1 = g.R.Register.view c.loop-before.register in
+    let v2 = g.R.Register.view c.read_entry.new.register in
+    let i = c.loop-before.invariant in
+    let e = c.in_ok-read_entry.ensures in
+    done_then v0 v1 v2 i.done e.later e.done
+
+pub returns-in-Another-clause-later : goal.returns-in-Another-clause-later
+returns-in-Another-clause-later g c =
+    let v0 = g.R.Register.view c.args.register.now in
+    let v1 = g.R.Register.view c.loop-before.register in
+    let v2 = g.R.Register.view c.read_entry.new.register in
+    let i = c.loop-before.invariant in
+    let e = c.in_ok-read_entry.ensures in
+    later_more v0 v1 v2 i.later e.later
+
+pub returns-in-Another-clause-blame : goal.returns-in-Another-clause-blame
+returns-in-Another-clause-blame g c kept = blame_none tt _ _
+
+pub returns-in_err-end-in-Nothing-clause-entries : goal.returns-in_err-end-in-Nothing-clause-entries
+returns-in_err-end-in-Nothing-clause-entries g c clean is_open has honest sure order formed = no_answer c.from_residual-in_err-end-in-Nothing.result _ _ c.from_residual-in_err-end-in-Nothing.ensures.1
+
+pub returns-in_err-end-in-Nothing-clause-holds : goal.returns-in_err-end-in-Nothing-clause-holds
+returns-in_err-end-in-Nothing-clause-holds g c honest sure = no_answer c.from_residual-in_err-end-in-Nothing.result _ _ c.from_residual-in_err-end-in-Nothing.ensures.1
+
+pub returns-in_err-end-in-Nothing-clause-look : goal.returns-in_err-end-in-Nothing-clause-look
+returns-in_err-end-in-Nothing-clause-look g c =
+    let s0 = state g.S.Store c.args.conn.now in
+    let s1 = state g.S.Store c.loop-before.conn in
+    let s2 = state g.S.Store c.read_entry.new.conn in
+    look_told_then c.in_err-end-in-Nothing.field-0.0 c.from_residual-in_err-end-in-Nothing.result c.from_residual-in_err-end-in-Nothing.ensures.1 Reading s0 s2 _ (look_more tt s0 s1 s2 c.loop-before.invariant.look c.in_ok-read_entry.ensures.look) c.in_err-end-in-Nothing.ensures.look
+
+pub returns-in_err-end-in-Nothing-clause-cause : goal.returns-in_err-end-in-Nothing-clause-cause
+returns-in_err-end-in-Nothing-clause-cause g c clean is_open has =
+    let s0 = state g.S.Store c.args.conn.now in
+    let s1 = state g.S.Store c.loop-before.conn in
+    let s2 = state g.S.Store c.read_entry.new.conn in
+    cause_told_then c.in_err-end-in-Nothing.field-0.0 c.from_residual-in_err-end-in-Nothing.result c.from_residual-in_err-end-in-Nothing.ensures.1 Reading s0 s2 _ (look_more tt s0 s1 s2 c.loop-before.invariant.look c.in_ok-read_entry.ensures.look) c.in_err-end-in-Nothing.ensures.look c.in_err-end-in-Nothing.ensures.cause clean is_open has
+
+pub returns-in_err-end-in-Nothing-clause-done : goal.returns-in_err-end-in-Nothing-clause-done
+returns-in_err-end-in-Nothing-clause-done g c = not_done c.from_residual-in_err-end-in-Nothing.result _ _ c.from_residual-in_err-end-in-Nothing.ensures.1
+
+pub returns-in_err-end-in-Nothing-clause-later : goal.returns-in_err-end-in-Nothing-clause-later
+returns-in_err-end-in-Nothing-clause-later g c =
+    let v0 = g.R.Register.view c.args.register.now in
+    let v1 = g.R.Register.view c.loop-before.register in
+    let v2 = g.R.Register.view c.read_entry.new.register in
+    let i = c.loop-before.invariant in
+    let e = c.in_ok-read_entry.ensures in
+    later_more v0 v1 v2 i.later e.later
+
+pub returns-in_err-end-in-Nothing-clause-blame : goal.returns-in_err-end-in-Nothing-clause-blame
+returns-in_err-end-in-Nothing-clause-blame g c kept = blame_told c.in_err-end-in-Nothing.field-0.0 c.from_residual-in_err-end-in-Nothing.result c.from_residual-in_err-end-in-Nothing.ensures.1 _ _
+
+pub returns-in-Nothing-clause-look : goal.returns-in-Nothing-clause-look
+returns-in-Nothing-clause-look g c =
+    let s0 = state g.S.Store c.args.conn.now in
+    let s1 = state g.S.Store c.loop-before.conn in
+    let s2 = state g.S.Store c.read_entry.new.conn in
+    look_more c.in_ok-end-in-Nothing.end s0 s2 _ (look_more tt s0 s1 s2 c.loop-before.invariant.look c.in_ok-read_entry.ensures.look) c.in_ok-end-in-Nothing.ensures.look
+
+pub returns-in-Nothing-clause-done : goal.returns-in-Nothing-clause-done
+returns-in-Nothing-clause-done g c =
+    let v0 = g.R.Register.view c.args.register.now in
+    let v1 = g.R.Register.view c.loop-before.register in
+    let v2 = g.R.Register.view c.read_entry.new.register in
+    let i = c.loop-before.invariant in
+    let e = c.in_ok-read_entry.ensures in
+    done_then v0 v1 v2 i.done e.later e.done
+
+pub returns-in-Nothing-clause-later : goal.returns-in-Nothing-clause-later
+returns-in-Nothing-clause-later g c =
+    let v0 = g.R.Register.view c.args.register.now in
+    let v1 = g.R.Register.view c.loop-before.register in
+    let v2 = g.R.Register.view c.read_entry.new.register in
+    let i = c.loop-before.invariant in
+    let e = c.in_ok-read_entry.ensures in
+    later_more v0 v1 v2 i.later e.later
+
+pub returns-in-Nothing-clause-blame : goal.returns-in-Nothing-clause-blame
+returns-in-Nothing-clause-blame g c kept = blame_none tt _ _
+
+pub returns-in_err-end-clause-entries : goal.returns-in_err-end-clause-entries
+returns-in_err-end-clause-entries g c clean is_open has honest sure order formed = no_answer c.from_residual-in_err-end.result _ _ c.from_residual-in_err-end.ensures.1
+
+pub returns-in_err-end-clause-holds : goal.returns-in_err-end-clause-holds
+returns-in_err-end-clause-holds g c honest sure = no_answer c.from_residual-in_err-end.result _ _ c.from_residual-in_err-end.ensures.1
+
+pub returns-in_err-end-clause-look : goal.returns-in_err-end-clause-look
+returns-in_err-end-clause-look g c =
+    let s0 = state g.S.Store c.args.conn.now in
+    let s1 = state g.S.Store c.loop-before.conn in
+    look_told_then c.in_err-end.field-0.0 c.from_residual-in_err-end.result c.from_residual-in_err-end.ensures.1 Reading s0 s1 _ c.loop-before.invariant.look c.in_err-end.ensures.look
+
+pub returns-in_err-end-clause-cause : goal.returns-in_err-end-clause-cause
+returns-in_err-end-clause-cause g c clean is_open has =
+    let s0 = state g.S.Store c.args.conn.now in
+    let s1 = state g.S.Store c.loop-before.conn in
+    cause_told_then c.in_err-end.field-0.0 c.from_residual-in_err-end.result c.from_residual-in_err-end.ensures.1 Reading s0 s1 _ c.loop-before.invariant.look c.in_err-end.ensures.look c.in_err-end.ensures.cause clean is_open has
+
+pub returns-in_err-end-clause-done : goal.returns-in_err-end-clause-done
+returns-in_err-end-clause-done g c = not_done c.from_residual-in_err-end.result _ _ c.from_residual-in_err-end.ensures.1
+
+pub returns-in_err-end-clause-blame : goal.returns-in_err-end-clause-blame
+returns-in_err-end-clause-blame g c kept = blame_told c.in_err-end.field-0.0 c.from_residual-in_err-end.result c.from_residual-in_err-end.ensures.1 _ _
+
+pub returns-clause-look : goal.returns-clause-look
+returns-clause-look g c =
+    let s0 = state g.S.Store c.args.conn.now in
+    let s1 = state g.S.Store c.loop-before.conn in
+    look_more c.in_ok-end.end s0 s1 _ c.loop-before.invariant.look c.in_ok-end.ensures.look
+
+pub returns-clause-blame : goal.returns-clause-blame
+returns-clause-blame g c kept = blame_none tt _ _

@@ -15,6 +15,7 @@ use Rattle.sql_tables.specs.Order.{AreInOrder}
 use Rattle.sql_tables.proofs.LookLemmas.{look_more}
 use Rattle.desk_register.proofs.ReadLemmas.{read_more}
 use Rattle.audit_desk.proofs.GoneLemmas.{moved, IsAccepted}
+use Rattle.audit_desk.proofs.HandedLemmas.{look_fell, look_handed, no_answer, read_fell, read_handed}
 use Rattle.audit_desk.proofs.ReadableFacts.{readable}
 use Rattle.audit_desk.proofs.RestLemmas.{no_stranger, stands_within}
 use Rattle.audit_desk.proofs.rest.first_other.Goals as goal
@@ -112,3 +113,109 @@ returns-in_err-has_amounts-clause-cause g c = λ clean3 is_open has honest3 sure
     let formed2 = subst (λ (d : Database). AreAllFormed d.trees) (sym same.now) formed in
     cause_failed Bool c.in_err-has_amounts.field-0.0 c.from_residual-in_err-has_amounts.result c.from_residual-in_err-has_amounts.ensures.1 s0 s2 s3 l2.later later
     (c.in_err-has_amounts.ensures.blame clean3 same.is_open (ap (λ (d : Database). d.schema) same.now ∙ has) honest3 (r2.ok.sure honest2 sure) order2 formed2)
+
+pub returns-in_err-has_standings-clause-says : goal.returns-in_err-has_standings-clause-says
+returns-in_err-has_standings-clause-says g c clean is_open has honest sure order formed held = no_answer c.from_residual.result _ _ c.from_residual.ensures.1
+
+pub returns-in_err-has_standings-clause-exact : goal.returns-in_err-has_standings-clause-exact
+returns-in_err-has_standings-clause-exact g c clean is_open has honest sure held formed rest = no_answer c.from_residual.result _ _ c.from_residual.ensures.1
+
+pub returns-in_err-has_standings-clause-look : goal.returns-in_err-has_standings-clause-look
+returns-in_err-has_standings-clause-look g c =
+    let s0 = state g.S.Store c.args.conn.now in
+    let s1 = state g.S.Store c.has_standings.new.conn in
+    look_handed Bool c.in_err-has_standings.field-0.0 c.from_residual.result c.from_residual.ensures.1 s0 s1 c.in_err-has_standings.ensures.look
+
+pub returns-in_err-has_standings-clause-read : goal.returns-in_err-has_standings-clause-read
+returns-in_err-has_standings-clause-read g c =
+    let v0 = g.R.Register.view c.args.register.now in
+    let v1 = g.R.Register.view c.has_standings.new.register in
+    read_handed Bool c.in_err-has_standings.field-0.0 c.from_residual.result c.from_residual.ensures.1 v0 v1 c.in_err-has_standings.ensures.read
+
+pub returns-in_err-has_sent-clause-says : goal.returns-in_err-has_sent-clause-says
+returns-in_err-has_sent-clause-says g c clean is_open has honest sure order formed held = no_answer c.from_residual-in_err-has_sent.result _ _ c.from_residual-in_err-has_sent.ensures.1
+
+pub returns-in_err-has_sent-clause-exact : goal.returns-in_err-has_sent-clause-exact
+returns-in_err-has_sent-clause-exact g c clean is_open has honest sure held formed rest = no_answer c.from_residual-in_err-has_sent.result _ _ c.from_residual-in_err-has_sent.ensures.1
+
+pub returns-in_err-has_sent-clause-look : goal.returns-in_err-has_sent-clause-look
+returns-in_err-has_sent-clause-look g c =
+    let s0 = state g.S.Store c.args.conn.now in
+    let s1 = state g.S.Store c.has_standings.new.conn in
+    let s2 = state g.S.Store c.has_sent.new.conn in
+    look_fell Bool c.in_err-has_sent.field-0.0 c.from_residual-in_err-has_sent.result c.from_residual-in_err-has_sent.ensures.1 s0 s1 s2 c.in_ok-has_standings.ensures.look c.in_err-has_sent.ensures.look
+
+pub returns-in_err-has_sent-clause-read : goal.returns-in_err-has_sent-clause-read
+returns-in_err-has_sent-clause-read g c =
+    let v0 = g.R.Register.view c.args.register.now in
+    let v1 = g.R.Register.view c.has_standings.new.register in
+    let v2 = g.R.Register.view c.has_sent.new.register in
+    read_fell Bool c.in_err-has_sent.field-0.0 c.from_residual-in_err-has_sent.result c.from_residual-in_err-has_sent.ensures.1 v0 v1 v2 c.in_ok-has_standings.ensures.read c.in_err-has_sent.ensures.read
+
+pub returns-in_err-has_amounts-clause-says : goal.returns-in_err-has_amounts-clause-says
+returns-in_err-has_amounts-clause-says g c clean is_open has honest sure order formed held = no_answer c.from_residual-in_err-has_amounts.result _ _ c.from_residual-in_err-has_amounts.ensures.1
+
+pub returns-in_err-has_amounts-clause-exact : goal.returns-in_err-has_amounts-clause-exact
+returns-in_err-has_amounts-clause-exact g c clean is_open has honest sure held formed rest = no_answer c.from_residual-in_err-has_amounts.result _ _ c.from_residual-in_err-has_amounts.ensures.1
+
+pub returns-in_err-has_amounts-clause-look : goal.returns-in_err-has_amounts-clause-look
+returns-in_err-has_amounts-clause-look g c =
+    let s0 = state g.S.Store c.args.conn.now in
+    let s1 = state g.S.Store c.has_standings.new.conn in
+    let s2 = state g.S.Store c.has_sent.new.conn in
+    let s3 = state g.S.Store c.has_amounts.new.conn in
+    look_fell Bool c.in_err-has_amounts.field-0.0 c.from_residual-in_err-has_amounts.result c.from_residual-in_err-has_amounts.ensures.1 s0 s2 s3 (look_more tt s0 s1 s2 c.in_ok-has_standings.ensures.look c.in_ok-has_sent.ensures.look) c.in_err-has_amounts.ensures.look
+
+pub returns-in_err-has_amounts-clause-read : goal.returns-in_err-has_amounts-clause-read
+returns-in_err-has_amounts-clause-read g c =
+    let v0 = g.R.Register.view c.args.register.now in
+    let v1 = g.R.Register.view c.has_standings.new.register in
+    let v2 = g.R.Register.view c.has_sent.new.register in
+    let v3 = g.R.Register.view c.has_amounts.new.register in
+    read_fell Bool c.in_err-has_amounts.field-0.0 c.from_residual-in_err-has_amounts.result c.from_residual-in_err-has_amounts.ensures.1 v0 v2 v3 (read_more tt v0 v1 v2 c.in_ok-has_standings.ensures.read c.in_ok-has_sent.ensures.read) c.in_err-has_amounts.ensures.read
+
+pub returns-then-not-branch-2-clause-look : goal.returns-then-not-branch-2-clause-look
+returns-then-not-branch-2-clause-look g c =
+    let s0 = state g.S.Store c.args.conn.now in
+    let s1 = state g.S.Store c.has_standings.new.conn in
+    let s2 = state g.S.Store c.has_sent.new.conn in
+    look_more tt s0 s1 s2 c.in_ok-has_standings.ensures.look c.in_ok-has_sent.ensures.look
+
+pub returns-then-not-branch-2-clause-read : goal.returns-then-not-branch-2-clause-read
+returns-then-not-branch-2-clause-read g c =
+    let v0 = g.R.Register.view c.args.register.now in
+    let v1 = g.R.Register.view c.has_standings.new.register in
+    let v2 = g.R.Register.view c.has_sent.new.register in
+    read_more tt v0 v1 v2 c.in_ok-has_standings.ensures.read c.in_ok-has_sent.ensures.read
+
+pub returns-then-not-branch-3-clause-look : goal.returns-then-not-branch-3-clause-look
+returns-then-not-branch-3-clause-look g c =
+    let s0 = state g.S.Store c.args.conn.now in
+    let s1 = state g.S.Store c.has_standings.new.conn in
+    let s2 = state g.S.Store c.has_sent.new.conn in
+    let s3 = state g.S.Store c.has_amounts.new.conn in
+    look_more tt s0 s2 s3 (look_more tt s0 s1 s2 c.in_ok-has_standings.ensures.look c.in_ok-has_sent.ensures.look) c.in_ok-has_amounts.ensures.look
+
+pub returns-then-not-branch-3-clause-read : goal.returns-then-not-branch-3-clause-read
+returns-then-not-branch-3-clause-read g c =
+    let v0 = g.R.Register.view c.args.register.now in
+    let v1 = g.R.Register.view c.has_standings.new.register in
+    let v2 = g.R.Register.view c.has_sent.new.register in
+    let v3 = g.R.Register.view c.has_amounts.new.register in
+    read_more tt v0 v2 v3 (read_more tt v0 v1 v2 c.in_ok-has_standings.ensures.read c.in_ok-has_sent.ensures.read) c.in_ok-has_amounts.ensures.read
+
+pub returns-clause-look : goal.returns-clause-look
+returns-clause-look g c =
+    let s0 = state g.S.Store c.args.conn.now in
+    let s1 = state g.S.Store c.has_standings.new.conn in
+    let s2 = state g.S.Store c.has_sent.new.conn in
+    let s3 = state g.S.Store c.has_amounts.new.conn in
+    look_more tt s0 s2 s3 (look_more tt s0 s1 s2 c.in_ok-has_standings.ensures.look c.in_ok-has_sent.ensures.look) c.in_ok-has_amounts.ensures.look
+
+pub returns-clause-read : goal.returns-clause-read
+returns-clause-read g c =
+    let v0 = g.R.Register.view c.args.register.now in
+    let v1 = g.R.Register.view c.has_standings.new.register in
+    let v2 = g.R.Register.view c.has_sent.new.register in
+    let v3 = g.R.Register.view c.has_amounts.new.register in
+    read_more tt v0 v2 v3 (read_more tt v0 v1 v2 c.in_ok-has_standings.ensures.read c.in_ok-has_sent.ensures.read) c.in_ok-has_amounts.ensures.read
