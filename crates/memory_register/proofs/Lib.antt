@@ -10,6 +10,7 @@ mod NthLemmas
 mod NumbersLemmas
 mod OnlyLemmas
 mod OpenLemmas
+mod PutLemmas
 mod RegisteredLemmas
 mod SecurityWalkLemmas
 mod SumsLemmas
