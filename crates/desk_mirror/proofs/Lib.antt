@@ -3,3 +3,4 @@ pub mod WaitingLemmas
 pub mod ChangeLemmas
 pub mod ToldLemmas
 pub mod TriedLemmas
+pub mod BothLemmas
