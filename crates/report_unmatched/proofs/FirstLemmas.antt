@@ -38,6 +38,18 @@ noted_one content number old new one key is same put = record {
       ∙ ap (λ o. option_or (get near_cmp old q) (then_some (has_key q o) number)) (sym is);
 }
 
+or_none : (found : Option ℕ) → found ≡ option_or found None
+or_none None = refl
+or_none (Some n) = refl
+
+-- what is no unmatched instruction's number is put nowhere
+pub noted_none : (content : Content) (number : ℕ) (numbers : BTreeMap NearKey ℕ) → unmatched_in content number ≡ None → IsNoted content number numbers numbers
+noted_none content number numbers none = record {
+  each = λ key.
+      or_none (get near_cmp numbers key)
+      ∙ ap (λ o. option_or (get near_cmp numbers key) (then_some (has_key key o) number)) (sym none);
+}
+
 -- with one number more
 first_more : (content : Content) (upto : ℕ) (old new : BTreeMap NearKey ℕ) → AreFirst old content upto → IsNoted content (upto + 1) old new → AreFirst new content (upto + 1)
 first_more content upto old new first noted = record {

@@ -1,6 +1,6 @@
 -- The nearest to an instruction, by the least numbers that were noted.
 use Rattle.std.proofs.Common.{◌≡◌, ℕ, Bool, true, List, [], ◌∷◌, length, Option, Some, None, refl, sym, ap, ◌∙◌}
-use Rattle.std.specs.Prelude.{option_and_then, option_map}
+use Rattle.std.specs.Prelude.{Ok, option_and_then, option_map}
 use Rattle.std.specs.List.{find}
 use Rattle.std.specs.BTreeMap.{BTreeMap, get}
 use Rattle.desk_rules.specs.Content.{Content, history_of}
@@ -8,13 +8,16 @@ use Rattle.desk_rules.specs.History.{instruction_at}
 use Rattle.desk_rules.specs.declared.history.entry.Instructed.{Instructed}
 use Rattle.desk_rules.specs.declared.history.standing.State.{State}
 use Rattle.desk_rules.specs.declared.history.standing.State.TheVariants.{NoInstruction, Unmatched, Matched, Cancelled, Settled}
+use Rattle.desk_register.specs.View.{IsLater, IsRead, View}
 use Rattle.desk_register.proofs.CaseLemmas.{by_bool}
+use Rattle.desk_register.proofs.ReadLemmas.{held_so, read_one}
 use Rattle.report_rows.specs.declared.unmatched.Nearest.{Nearest}
+use Rattle.report_rows.specs.declared.unmatched.UnmatchedInstruction.{UnmatchedInstruction}
 use Rattle.report_unmatched.specs.declared.near.NearKey.{NearKey}
 use Rattle.report_unmatched.specs.NearKeys.{near_cmp, near_key}
 use Rattle.report_unmatched.specs.FirstNumbers.{AreFirst}
 use Rattle.desk_rules.specs.Unmatched.{if_unmatched, unmatched_in}
-use Rattle.report_unmatched.specs.Unmatched.{is_some_near, nearest_number, nearest_of, nearest_told, numbers_of}
+use Rattle.report_unmatched.specs.Unmatched.{is_some_near, nearest_number, nearest_of, nearest_told, numbers_of, row_of, unmatched_row}
 use Rattle.report_unmatched.proofs.FirstLemmas.{found_nearest}
 
 pub found_holds : (test : ℕ → Bool) (ns : List ℕ) (n : ℕ) → find test ns ≡ Some n → test n ≡ true
@@ -63,3 +66,23 @@ module _ (content : Content) (numbers : BTreeMap NearKey ℕ) (one : Instructed)
 
     pub nearest_there : instruction_at (history_of content) n ≡ None → ⊥
     nearest_there none = none_near one (unmatched_in content n) (none_unmatched (content.standing n).state (instruction_at (history_of content) n) none) is_there
+
+-- The row of an instruction, by the nearest one to it.
+
+abbrev pub as_row : ℕ → Instructed → Option Nearest → Option UnmatchedInstruction
+as_row number one nearest = Some (record { number = number; instructed = one; nearest = nearest })
+
+row_told : (content : Content) (number : ℕ) (one : Instructed) (nearest : Option Nearest) → unmatched_in content number ≡ Some one → nearest ≡ nearest_of content one
+    → as_row number one nearest ≡ unmatched_row content number
+row_told content number one nearest at is =
+    ap (λ z. as_row number one z) is ∙ sym (ap (option_map (row_of content number)) at)
+
+-- as both were read
+pub row_read : (v0 v1 v2 : View) (number : ℕ) (found : Option Instructed) (one : Instructed) (nearest : Option Nearest) → IsRead {X = Option Instructed} (Ok found) v0 v1
+    → (v1.is_honest → v0.is_sure → found ≡ unmatched_in v0.content number) → found ≡ Some one → IsLater v1 v2 → (v2.is_honest → v1.is_sure → nearest ≡ nearest_of v1.content one)
+    → v2.is_honest → v0.is_sure → as_row number one nearest ≡ unmatched_row v0.content number
+row_read v0 v1 v2 number found one nearest first told is later is_nearest honest sure =
+    let honest1 = later.honest honest in
+    let read = read_one found v0 v1 first in
+    let near = held_so v0 v1 read (λ c. nearest ≡ nearest_of c one) honest1 sure (is_nearest honest (read.ok.sure honest1 sure)) in
+    row_told v0.content number one nearest (sym (told honest1 sure) ∙ is) near

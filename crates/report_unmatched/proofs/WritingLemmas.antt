@@ -1,9 +1,11 @@
 -- The rows of unmatched instructions, written number by number.
-use Rattle.std.proofs.Common.{◌≡◌, ℕ, ◌+◌, ◌-◌, ◌≤◌, Bool, false, List, [], ◌∷◌, ◌++◌, length, map, Option, Some, None, refl, sym, ap, ◌∙◌, subst, arith, append-nil}
+use Rattle.std.proofs.Common.{◌≡◌, ℕ, ◌+◌, ◌-◌, ◌≤◌, Bool, true, false, List, [], ◌∷◌, ◌++◌, length, map, Option, Some, None, refl, sym, ap, ◌∙◌, subst, arith, append-nil}
 use Rattle.std.specs.Prelude.{Result, Ok, Err}
 use Rattle.std.specs.Result.{IsErrAnd}
 use Rattle.std.specs.List.{cons_option, filter_map, range_with_len}
+use Rattle.std.specs.Io.KnownBytes.{Appends}
 use Rattle.std.proofs.lemmas.List.Elements.{filter_map-append}
+use Rattle.serde_json.specs.Written.{comma_if, compact_text}
 use Rattle.desk_msg.specs.declared.writing.statement_row.SinkFault.TheVariants as sinks
 use Rattle.desk_rules.specs.Content.{Content}
 use Rattle.desk_rules.proofs.SentFronts.{range-append}
@@ -142,3 +144,16 @@ module _ (IsJson : Type 0) (v0 : View) (count : ℕ) where
         let entries = w.entries honest sure in
         let all : n ≡ length v0.content.register = omega arith in
         subst (λ k. WritesWhole (λ text. text ≡ rows_text false (map unmatched_data (rows_upto k v0.content))) before between) all (rows_whole unmatched_data (rows_upto n v0.content) was_later before between (w.rows_of json honest sure))
+
+-- How the row of a number was written.
+
+-- there is none
+pub row_none : (content : Content) (number : ℕ) (found : Option UnmatchedInstruction) (is_later : Bool) (before : Option (List ℕ)) → found ≡ unmatched_row content number → found ≡ None
+    → WritesIf (Ok is_later) (unmatched_row content number) is_later before before
+row_none content number found is_later before told none =
+    subst (λ z. WritesIf (Ok is_later) z is_later before before) (sym none ∙ told) (refl, refl)
+
+pub row_some : (content : Content) (number : ℕ) (found : Option UnmatchedInstruction) (row : UnmatchedInstruction) (is_later : Bool) (before after : Option (List ℕ)) → found ≡ unmatched_row content number → found ≡ Some row
+    → Appends before after (comma_if is_later ++ compact_text (unmatched_data row)) → WritesIf (Ok true) (unmatched_row content number) is_later before after
+row_some content number found row is_later before after told some written =
+    subst (λ z. WritesIf (Ok true) z is_later before after) (sym some ∙ told) (refl, written)
