@@ -4,5 +4,6 @@ pub mod MatchedLemmas
 pub mod OnePending
 pub mod ReadLemmas
 pub mod RowLemmas
+pub mod StepLemmas
 pub mod TablesLemmas
 pub mod WalkLemmas
