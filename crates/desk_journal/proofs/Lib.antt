@@ -9,5 +9,7 @@ pub mod RangeLemmas
 pub mod ReplyLemmas
 pub mod SendingLemmas
 pub mod SettledLemmas
+pub mod SettledRunLemmas
+pub mod StepLemmas
 pub mod ToldLemmas
 pub mod WritingLemmas

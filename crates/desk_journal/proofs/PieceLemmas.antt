@@ -13,7 +13,8 @@ use Rattle.desk_register.specs.declared.fault.WalkFault.{WalkFault}
 use Rattle.desk_register.specs.declared.fault.WalkFault.TheVariants as walks
 use Rattle.desk_book.specs.RowByRow.{WritesSome, WritesText, WritesWhole}
 use Rattle.desk_book.specs.Sums.{rows_text}
-use Rattle.desk_book.proofs.RowLemmas.{appended, closed_by}
+use Rattle.desk_book.proofs.RowLemmas.{appended, appends_nothing, closed_by}
+use Rattle.report_rows.proofs.NumberedLemmas.{handed_on}
 use Rattle.desk_journal.specs.Journal.{IsJournalText, data_of, journal_of}
 use Rattle.desk_journal.specs.Writing.{AreRowsText}
 
@@ -60,3 +61,21 @@ module _ (books : Books) (from : ℕ) (a b c : Option (List ℕ)) (begun : Appen
     is_text = of_rows books from w.text w.is_text;
   }
   ended (Err other) d w end fault = write_failed {X = Unit {0}} (IsJournalText books from) other (Err other) a d fault refl
+
+-- before anything is written
+some_none : (books : Books) (from : ℕ) (before : Option (List ℕ)) → WritesSome (IsJournalText books from) before before
+some_none books from before = record {
+  text = [];
+  written = appends_nothing before;
+  rest = compact_text (object (member (codes "journal") (array (items_of (map (data_of books) (journal_of books from)))) no_members));
+  is_text = refl;
+}
+
+none_told : (books : Books) (from : ℕ) (fault : WalkFault) (before : Option (List ℕ)) → WritesText {X = Unit {0}} (IsJournalText books from) (Err fault) before before
+none_told books from (walks.Sink sinks.Write) before = tt
+none_told books from (walks.Sink sinks.Memory) before = some_none books from before
+none_told books from walks.Memory before = some_none books from before
+none_told books from walks.Storage before = some_none books from before
+
+pub nothing_told : (books : Books) (from : ℕ) (fault : WalkFault) (r : Result (Unit {0}) WalkFault) (before : Option (List ℕ)) → IsErrAnd r (λ broken. broken ≡ fault) → WritesText (IsJournalText books from) r before before
+nothing_told books from fault r before is = handed_on (IsJournalText books from) fault r before before is (none_told books from fault before)
