@@ -4,3 +4,5 @@ mod EndLemmas
 mod CashLemmas
 pub mod AccountLemmas
 mod HoldingLemmas
+mod NextLemmas
+mod StepLemmas

@@ -4,7 +4,7 @@ use Rattle.desk_rules.specs.Content.{history_of}
 use Rattle.desk_rules.specs.declared.history.entry.Entry.TheVariants.{Account}
 use Rattle.desk_holdings.specs.Holdings.{AreHoldings, HoldsRegistered}
 use Rattle.desk_register.proofs.ReadLemmas.{kept_so, read_none}
-use Rattle.desk_register.proofs.ReadingLemmas.{read_on}
+use Rattle.desk_register.proofs.ReadingLemmas.{read_on, read_so}
 use Rattle.report_rows.specs.RowData.{account_data}
 use Rattle.report_accounts.specs.Accounts.{account_rows, rows_of}
 use Rattle.report_accounts.specs.Writing.{IsRows, rows_at}
@@ -12,6 +12,7 @@ use Rattle.report_accounts.proofs.AccountLemmas.{has_row, no_account}
 use Rattle.report_accounts.proofs.EndLemmas.{walk_broke}
 use Rattle.report_accounts.proofs.LoopLemmas.{entry_rows, no_entry_rows}
 use Rattle.report_accounts.proofs.RowsLemmas.{handed_on, rows_broke, rows_failed}
+use Rattle.report_accounts.proofs.StepLemmas.{read_both, register_broke}
 use Rattle.report_accounts.proofs.accounts.write_entry.Goals as goal
 
 pub returns-in_err-bic-clause-written : goal.returns-in_err-bic-clause-written
@@ -19,11 +20,22 @@ returns-in_err-bic-clause-written g c = λ json honest sure held are.
     rows_failed account_data (rows_at (account_rows held) (history_of (g.R.Register.view c.args.register.now).content) c.args.number) c.args.is_later c.in_err-bic.field-0.0 c.from_residual.result
     (g.W.Write.contents c.args.writer.now) c.from_residual.ensures.1
 
+pub returns-in_err-bic-clause-read : goal.returns-in_err-bic-clause-read
+returns-in_err-bic-clause-read g c =
+    let v0 = g.R.Register.view c.args.register.now in
+    register_broke c.in_err-bic.field-0.0 c.from_residual.result v0 v0 (g.R.Register.view c.entry_of.new.register) c.from_residual.ensures.1 (read_none v0) c.in_err-bic.ensures.read
+
 pub returns-in_default-clause-written : goal.returns-in_default-clause-written
 returns-in_default-clause-written g c = λ json honest sure held are.
     let entry = c.in_ok-bic.field-0 in
     no_entry_rows account_data (account_rows held) (history_of (g.R.Register.view c.args.register.now).content) c.args.number entry (c.in_ok-bic.ensures.entry honest sure) c.args.is_later
     (g.W.Write.contents c.args.writer.now) (no_account held entry c.in_default.not-Account)
+
+pub returns-in_default-clause-read : goal.returns-in_default-clause-read
+returns-in_default-clause-read g c =
+    let v0 = g.R.Register.view c.args.register.now in
+    let v1 = g.R.Register.view c.entry_of.new.register in
+    read_so v0 v1 (read_on v0 v0 (read_none v0) c.in_ok-bic.field-0 v1 c.in_ok-bic.ensures.read) tt
 
 pub write_account-requires-clause-registered : goal.write_account-requires-clause-registered
 write_account-requires-clause-registered g c = λ honest sure.
@@ -76,3 +88,8 @@ returns-in_ok-write_account-in-Account-clause-written g c = λ json honest sure 
     let here = kept_so v0 v1 (read_on v0 v0 (read_none v0) c.in_ok-bic.field-0 v1 first.read) (λ z. AreHoldings z account (held account)) honest1 sure (are.each account) in
     entry_rows account_data (account_rows held) (history_of v0.content) c.args.number (Account c.in-Account.reference owner account) (first.entry honest1 sure ∙ ap Some c.in-Account.is) c.args.is_later _ before now
     (record { text = second.written json honest (first.read.ok.sure honest1 sure) (held account) here; later = has_row owner account c.args.is_later (held account) })
+
+pub returns-in_ok-write_account-in-Account-clause-read : goal.returns-in_ok-write_account-in-Account-clause-read
+returns-in_ok-write_account-in-Account-clause-read g c =
+    read_both c.in_ok-bic.field-0 tt tt (g.R.Register.view c.args.register.now) (g.R.Register.view c.entry_of.new.register) (g.R.Register.view c.write_account.new.register) c.in_ok-bic.ensures.read
+    c.in_ok-write_account-in-Account.ensures.read

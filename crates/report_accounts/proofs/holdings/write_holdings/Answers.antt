@@ -1,12 +1,14 @@
 -- Row by row, until nothing is held above the last one.
 use Rattle.std.proofs.Common.{◌≡◌, ◌≤◌, false, is_some, refl, ◌∙◌, arith}
 use Rattle.desk_register.proofs.ViewLemmas.{idle_goes}
-use Rattle.desk_register.proofs.ReadLemmas.{read_more, read_one}
-use Rattle.desk_register.proofs.ReadingLemmas.{gives_up, read_on}
+use Rattle.desk_register.proofs.ReadLemmas.{kept_so, read_more, read_none, read_one}
+use Rattle.desk_register.proofs.ReadingLemmas.{gives_up, read_on, read_so}
+use Rattle.desk_holdings.specs.Holdings.{HoldsRegistered}
 use Rattle.desk_holdings.proofs.WalkingLemmas.{none_taken, walking_begins, walking_breaks, walking_ends, walking_goes_on, walking_hands_over, walking_is_over}
 use Rattle.report_rows.specs.declared.format.Format.TheVariants.{Json}
 use Rattle.report_accounts.proofs.EndLemmas.{row_broke}
 use Rattle.report_accounts.proofs.HoldingLemmas.{TakesRow, Told, first_written, holdings_broke, holdings_failed, holdings_written, row_broke_off}
+use Rattle.report_accounts.proofs.StepLemmas.{register_broke}
 use Rattle.report_accounts.proofs.holdings.write_holdings.Goals as goal
 
 pub returns-in_err-count-clause-written : goal.returns-in_err-count-clause-written
@@ -19,6 +21,11 @@ returns-in_err-count-clause-written g c = λ json honest sure held are.
     (first_written c.args.owner c.args.account (c.args.format ≡ Json) v0 v start start json honest sure held are
     (none_taken (TakesRow c.args.owner c.args.account (c.args.format ≡ Json)) c.args.account v0 v start (λ really known. c.requires.registered (later.honest really) known)))
 
+pub returns-in_err-count-clause-read : goal.returns-in_err-count-clause-read
+returns-in_err-count-clause-read g c =
+    let v0 = g.R.Register.view c.args.register.now in
+    register_broke c.in_err-count.field-0.0 c.from_residual.result v0 v0 (g.R.Register.view c.count.new.self) c.from_residual.ensures.1 (read_none v0) c.in_err-count.ensures.read
+
 pub holdings-init : goal.holdings-init
 holdings-init g c =
     let r = c.in_ok-count.ensures in
@@ -27,6 +34,17 @@ holdings-init g c =
     walking_begins (TakesRow c.args.owner c.args.account (c.args.format ≡ Json)) c.args.account v0 v c.in_ok-count.count
     (record { later = c.args.is_later; some = false; held = g.W.Write.contents c.args.writer.now })
     (read_one c.in_ok-count.count v0 v r.read) (λ honest sure. r.value honest sure (idle_goes _ c.requires.stage))
+
+pub next_holding-requires-clause-registered : goal.next_holding-requires-clause-registered
+next_holding-requires-clause-registered g c = λ honest sure.
+    let read = c.holdings.invariant.read in
+    let sure0 = read.later.sure honest sure in
+    kept_so (g.R.Register.view c.args.register.now) (g.R.Register.view c.holdings.register) read (λ content. HoldsRegistered content c.args.account) honest sure0 (c.requires.registered (read.later.honest honest) sure0)
+
+pub returns-in_err-held-clause-read : goal.returns-in_err-held-clause-read
+returns-in_err-held-clause-read g c =
+    register_broke c.in_err-held.field-0.0 c.from_residual-in_err-held.result (g.R.Register.view c.args.register.now) (g.R.Register.view c.holdings.register) (g.R.Register.view c.next_holding.new.register)
+    c.from_residual-in_err-held.ensures.1 c.holdings.invariant.read c.in_err-held.ensures.read
 
 pub returns-in_err-held-clause-written : goal.returns-in_err-held-clause-written
 returns-in_err-held-clause-written g c = λ json honest sure held are.
@@ -39,6 +57,12 @@ returns-in_err-held-clause-written g c = λ json honest sure held are.
     (first_written c.args.owner c.args.account (c.args.format ≡ Json) v0 v1 start here json honest sure held are
     (walking_breaks (TakesRow c.args.owner c.args.account (c.args.format ≡ Json)) c.args.account v0 v c.in_ok-count.count c.holdings.last c.holdings._told start here c.holdings.invariant v1 c.in_err-held.ensures.read.later
     c.requires.registered))
+
+pub returns-in_default-clause-read : goal.returns-in_default-clause-read
+returns-in_default-clause-read g c =
+    let v0 = g.R.Register.view c.args.register.now in
+    let v1 = g.R.Register.view c.next_holding.new.register in
+    read_so v0 v1 (read_on v0 (g.R.Register.view c.holdings.register) c.holdings.invariant.read c.in_ok-held.field-0 v1 c.in_ok-held.ensures.read) tt
 
 pub returns-in_default-clause-written : goal.returns-in_default-clause-written
 returns-in_default-clause-written g c = λ json honest sure held are.
@@ -86,6 +110,11 @@ holdings-preserved g c =
     walking_goes_on (TakesRow c.args.owner c.args.account (c.args.format ≡ Json)) c.args.account v0 v c.in_ok-count.count c.holdings.last c.holdings._told start here c.holdings.invariant v1 c.in-Some.held
     _ (rw c.in-Some.is at r.read) (rw c.in-Some.is at r.next) (record { later = refl; some = refl; written = c.in_ok-write_account_row.ensures.written })
 
+pub returns-in_err-holding_after-clause-read : goal.returns-in_err-holding_after-clause-read
+returns-in_err-holding_after-clause-read g c =
+    register_broke c.in_err-holding_after.field-0.0 c.from_residual-in_err-holding_after.result (g.R.Register.view c.args.register.now) (g.R.Register.view c.holdings.register) (g.R.Register.view c.holding_after.new.self)
+    c.from_residual-in_err-holding_after.ensures.1 c.holdings.invariant.read c.in_err-holding_after.ensures.read
+
 pub returns-in_err-holding_after-clause-written : goal.returns-in_err-holding_after-clause-written
 returns-in_err-holding_after-clause-written g c = λ json honest sure held are.
     let v0 = g.R.Register.view c.args.register.now in
@@ -97,6 +126,12 @@ returns-in_err-holding_after-clause-written g c = λ json honest sure held are.
     (first_written c.args.owner c.args.account (c.args.format ≡ Json) v0 v1 start here json honest sure held are
     (walking_breaks (TakesRow c.args.owner c.args.account (c.args.format ≡ Json)) c.args.account v0 v c.in_ok-count.count c.holdings.last c.holdings._told start here c.holdings.invariant v1
     c.in_err-holding_after.ensures.read.later c.requires.registered))
+
+pub returns-in-None-clause-read : goal.returns-in-None-clause-read
+returns-in-None-clause-read g c =
+    let v0 = g.R.Register.view c.args.register.now in
+    let v1 = g.R.Register.view c.holding_after.new.self in
+    read_so v0 v1 (read_on v0 (g.R.Register.view c.holdings.register) c.holdings.invariant.read c.in_ok-holding_after.field-0 v1 c.in_ok-holding_after.ensures.read) tt
 
 pub returns-in-None-clause-written : goal.returns-in-None-clause-written
 returns-in-None-clause-written g c = λ json honest sure held are.
