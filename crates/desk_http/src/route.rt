@@ -1,5 +1,5 @@
 //! The paths of the desk: which of them a target is, and what it asks.
-ghost use Rattle.std.specs.Prelude.{◌≡◌, List, ℕ, ◌∷◌, ◌++◌, IfSome, IfNone};
+ghost use Rattle.std.specs.Prelude.{◌≡◌, List, ℕ, [], ◌∷◌, ◌++◌, IfSome, IfNone, OnOk};
 ghost use Rattle.std.specs.Str.{byte};
 ghost use Rattle.desk_http.specs.Paths.{IsPart, IsPath, Names, Path as PathValue, method_of, path_of};
 ghost use Rattle.desk_http.specs.Rows.{IsOn, desk_rows};
@@ -53,12 +53,7 @@ impl Routes {
 
     fn build(alloc: Global) -> Result<Routes, InsertError> {
         let mut router = Router::new(alloc);
-        router.insert("/in/{bic}/{mt}", Route::Message)?;
-        router.insert("/ops", Route::Operator)?;
-        router.insert("/status/{bic}", Route::Status)?;
-        router.insert("/holdings/{bic}", Route::Holdings)?;
-        router.insert("/out/{bic}/{k}", Route::Sent)?;
-        router.insert("/sums", Route::Sums)?;
+        add_paths(&mut router)?;
         Ok(Routes { router })
     }
 
@@ -102,6 +97,20 @@ impl Path<'_> {
             Path::Sums => Some(Question::Sums),
         }
     }
+}
+
+/// Adds the six paths to a router that has none.
+fn add_paths(router: &mut Router<Route>) -> Result<(), InsertError>
+    requires { router.old ≡ [] }
+    ensures { OnOk result (router.new ≡ desk_rows) }
+{
+    router.insert("/in/{bic}/{mt}", Route::Message)?;
+    router.insert("/ops", Route::Operator)?;
+    router.insert("/status/{bic}", Route::Status)?;
+    router.insert("/holdings/{bic}", Route::Holdings)?;
+    router.insert("/out/{bic}/{k}", Route::Sent)?;
+    router.insert("/sums", Route::Sums)?;
+    Ok(())
 }
 
 /// The path that a target on this route is.

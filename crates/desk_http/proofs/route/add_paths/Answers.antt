@@ -1,13 +1,14 @@
+use Rattle.std.proofs.Common.{refl}
 use Rattle.matchit.proofs.OnLiterals.{matchit_on_literals}
-use Rattle.desk_http.proofs.route.Routes.build.Goals as goal
+use Rattle.desk_http.proofs.route.add_paths.Goals as goal
 
-pub invariant_of-result : goal.invariant_of-result
+pub returns : goal.returns
 unfolding matchit_on_literals
-invariant_of-result c =
+returns c =
     let one = c.in_ok-insert.ensures in
     let two = c.in_ok-insert-2.ensures in
     let three = c.in_ok-insert-3.ensures in
     let four = c.in_ok-insert-4.ensures in
     let five = c.in_ok-insert-5.ensures in
     let six = c.in_ok-insert-6.ensures in
-    record { rows = rw (six.1, five.1, four.1, three.1, two.1, one.1, c.new-router.ensures) }
+    rw (six.1, five.1, four.1, three.1, two.1, one.1, c.requires) refl
