@@ -30,3 +30,4 @@ pub mod TrialLemmas
 pub mod WantLemmas
 pub mod SendableLemmas
 pub mod WalkLemmas
+pub mod FailedLemmas

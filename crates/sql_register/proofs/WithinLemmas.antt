@@ -9,7 +9,7 @@ use Rattle.sql_tables.specs.Ends.{IfSound, IsLater, SaysWhy, Stays, IsSame, IsUn
 use Rattle.sql_register.specs.Settling.{IsMarked, IsLeft, IsTrial}
 use Rattle.sql_tables.proofs.EndLemmas.{why_later}
 
-later_then : (a b c : State) → IsLater a b → IsLater b c → IsLater a c
+pub later_then : (a b c : State) → IsLater a b → IsLater b c → IsLater a c
 later_then a b c p q = record { clean = omega (arith, p.clean, q.clean); faults = omega (arith, p.faults, q.faults); limit = q.limit ∙ p.limit }
 
 left_same : (a b : State) → a.in_transaction ≡ true → a.now.schema ≡ desk_schema → IsSame a b → IsLeft a b
@@ -24,7 +24,7 @@ left_then a b c same s = record { is_open = s.is_open; schema = s.schema; mode =
 undone_then : (a b c : State) → b.committed ≡ a.committed → IsUndone b c → IsUndone a c
 undone_then a b c same q = record { now = λ is. q.now is ∙ same; committed = λ is. q.committed is ∙ same; mode = q.mode; marks = q.marks }
 
-fell_looking : (a b c : State) → b.committed ≡ a.committed → b.in_transaction ≡ true → b.now.schema ≡ desk_schema → FellLooking b c → IsLeft a c ⊎ IsUndone a c
+pub fell_looking : (a b c : State) → b.committed ≡ a.committed → b.in_transaction ≡ true → b.now.schema ≡ desk_schema → FellLooking b c → IsLeft a c ⊎ IsUndone a c
 fell_looking a b c same inside has (inl s) = inl (left_then a b c same (left_same b c inside has s))
 fell_looking a b c same inside has (inr u) = inr (undone_then a b c same u)
 

@@ -1,4 +1,4 @@
-use Rattle.std.proofs.Common.{◌≡◌, ◌∙◌, ap, arith, refl, subst, sym, Some}
+use Rattle.std.proofs.Common.{Ok, ◌≡◌, ◌∙◌, ap, arith, refl, subst, sym, Some}
 use Rattle.sqlite.specs.Effect.{Database}
 use Rattle.sqlite.specs.Held.{state}
 use Rattle.sqlite.specs.State.{HasCleanDisk}
@@ -9,8 +9,10 @@ use Rattle.sql_register.specs.Content.{content_in}
 use Rattle.sql_register.specs.Holds.{IsDesk}
 use Rattle.sql_tables.specs.Ends.{ForCause}
 use Rattle.sql_tables.proofs.CallLemmas.{later_then}
+use Rattle.sql_tables.proofs.LookLemmas.{look_ok, look_then}
 use Rattle.sql_tables.proofs.ResultLemmas.{on_error}
 use Rattle.sql_register.proofs.CauseLemmas.{caused_error, looked, looked_then}
+use Rattle.sql_register.proofs.FailedLemmas.{look_only, no_value}
 use Rattle.sql_register.proofs.WalkLemmas.{look_handed}
 use Rattle.sql_register.proofs.settling.pair_at.Goals as goal
 
@@ -79,3 +81,34 @@ returns-in_err-earlier-clause-blame g c clean is_open has desk mate earlier late
     (looked_then _ s0 s1 s2 (λ d. d ≡ s0.now) (looked _ s0 s1 (λ d. d ≡ s0.now) c.in_ok-later.ensures.look refl) c.in_ok-mate.ensures.look)
     (λ clean3 open2 has2 same. c.in_err-earlier.ensures.blame clean3 open2 has2 (subst IsDesk (sym same) desk) earlier
     (ap (λ (d : Database). instruction_at (history_of (content_in d)) c.in_ok-mate.mate) same ∙ ap (instruction_at (history_of (content_in s0.now))) (sym is_mate) ∙ pair.is_earlier)) clean is_open has)
+
+pub returns-in_err-later-clause-value : goal.returns-in_err-later-clause-value
+returns-in_err-later-clause-value g c clean is_open has desk = no_value c.from_residual.result c.in_err-later.field-0.0 c.from_residual.ensures.1 _
+
+pub returns-in_err-mate-clause-value : goal.returns-in_err-mate-clause-value
+returns-in_err-mate-clause-value g c clean is_open has desk = no_value c.from_residual-in_err-mate.result c.in_err-mate.field-0.0 c.from_residual-in_err-mate.ensures.1 _
+
+pub returns-in_err-earlier-clause-value : goal.returns-in_err-earlier-clause-value
+returns-in_err-earlier-clause-value g c clean is_open has desk = no_value c.from_residual-in_err-earlier.result c.in_err-earlier.field-0.0 c.from_residual-in_err-earlier.ensures.1 _
+
+pub returns-in_err-later-clause-look : goal.returns-in_err-later-clause-look
+returns-in_err-later-clause-look g c =
+    let s0 = state g.S.Store c.args.conn.now in
+    let s1 = state g.S.Store c.instruction.new.conn in
+    look_only c.from_residual.result c.in_err-later.field-0.0 c.from_residual.ensures.1 _ s0 s1 c.in_err-later.ensures.look
+
+pub returns-in_err-earlier-clause-look : goal.returns-in_err-earlier-clause-look
+returns-in_err-earlier-clause-look g c =
+    let s0 = state g.S.Store c.args.conn.now in
+    let s1 = state g.S.Store c.instruction.new.conn in
+    let s2 = state g.S.Store c.mate_of.new.conn in
+    let s3 = state g.S.Store c.instruction-2.new.conn in
+    look_handed c.in_ok-mate.mate s0 s2 s3 (look_then c.in_ok-later.later (Ok c.in_ok-mate.mate) s0 s1 s2 c.in_ok-later.ensures.look c.in_ok-mate.ensures.look) c.from_residual-in_err-earlier.result c.in_err-earlier.field-0.0 c.from_residual-in_err-earlier.ensures.1 c.in_err-earlier.ensures.look
+
+pub returns-clause-look : goal.returns-clause-look
+returns-clause-look g c =
+    let s0 = state g.S.Store c.args.conn.now in
+    let s1 = state g.S.Store c.instruction.new.conn in
+    let s2 = state g.S.Store c.mate_of.new.conn in
+    let s3 = state g.S.Store c.instruction-2.new.conn in
+    look_ok c.in_ok-earlier.earlier _ s0 s3 (look_then c.in_ok-mate.mate (Ok c.in_ok-earlier.earlier) s0 s2 s3 (look_then c.in_ok-later.later (Ok c.in_ok-mate.mate) s0 s1 s2 c.in_ok-later.ensures.look c.in_ok-mate.ensures.look) c.in_ok-earlier.ensures.look)

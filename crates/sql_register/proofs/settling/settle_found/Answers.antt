@@ -1,4 +1,4 @@
-use Rattle.std.proofs.Common.{◌∙◌, arith, subst, sym, Ok, ◌≡◌, [], ◌∷◌}
+use Rattle.std.proofs.Common.{Err, ℕ, ◌∙◌, arith, subst, sym, Ok, ◌≡◌, [], ◌∷◌}
 use Rattle.sqlite.specs.Effect.{Database}
 use Rattle.sqlite.specs.Held.{state}
 use Rattle.sqlite.specs.State.{HasCleanDisk}
@@ -13,6 +13,7 @@ use Rattle.sql_tables.proofs.CallLemmas.{later_then}
 use Rattle.sql_tables.proofs.ResultLemmas.{on_error}
 use Rattle.sql_register.specs.Pairs.{StandAlready, StandBoth}
 use Rattle.sql_register.proofs.CauseLemmas.{above, below, caused_error, marked, wrote_then}
+use Rattle.sql_register.proofs.FailedLemmas.{no_value, trial_fell, trial_handed, trial_none}
 use Rattle.sql_register.proofs.PairCauses.{moved_stands}
 use Rattle.sql_register.proofs.settling.settle_found.Goals as goal
 
@@ -91,3 +92,41 @@ returns-in_err-release-clause-blame g c clean is_open has desk day can pair insi
     on_error c.from_residual-in_err-release.result e (ForCause s0 s4) c.from_residual-in_err-release.ensures.1
     (caused_error e s0 s3 s4 (s3.marks ≡ mark_at s0.now ∷ []) (later_then s0 s2 s3 c.in_ok-outcome.ensures.trial.later c.in_ok-stand_both.ensures.write.later) c.in_err-release.ensures.later closed
     (λ clean4 open3 has3 it. c.in_err-release.ensures.blame clean4 open3 has3 s0.now it) clean is_open has)
+
+pub returns-in_err-in_order-clause-changed : goal.returns-in_err-in_order-clause-changed
+returns-in_err-in_order-clause-changed g c clean is_open has desk day can pair inside none = no_value c.from_residual.result c.in_err-in_order.field-0.0 c.from_residual.ensures.1 _
+
+pub returns-in_err-outcome-clause-changed : goal.returns-in_err-outcome-clause-changed
+returns-in_err-outcome-clause-changed g c clean is_open has desk day can pair inside none = no_value c.from_residual-in_err-outcome.result c.in_err-outcome.field-0.0 c.from_residual-in_err-outcome.ensures.1 _
+
+pub returns-in_err-stand_both-clause-changed : goal.returns-in_err-stand_both-clause-changed
+returns-in_err-stand_both-clause-changed g c clean is_open has desk day can pair inside none = no_value c.from_residual-in_err-stand_both.result c.in_err-stand_both.field-0.0 c.from_residual-in_err-stand_both.ensures.1 _
+
+pub returns-in_err-release-clause-changed : goal.returns-in_err-release-clause-changed
+returns-in_err-release-clause-changed g c clean is_open has desk day can pair inside none = no_value c.from_residual-in_err-release.result c.in_err-release.field-0.0 c.from_residual-in_err-release.ensures.1 _
+
+pub returns-in_err-in_order-clause-trial : goal.returns-in_err-in_order-clause-trial
+returns-in_err-in_order-clause-trial g c = trial_none c.from_residual.result c.in_err-in_order.field-0.0 c.from_residual.ensures.1 _ _
+
+pub returns-in_err-outcome-clause-trial : goal.returns-in_err-outcome-clause-trial
+returns-in_err-outcome-clause-trial g c =
+    let s0 = state g.S.Store c.args.conn.now in
+    let s2 = state g.S.Store c.move_both.new.conn in
+    trial_handed c.from_residual-in_err-outcome.result c.in_err-outcome.field-0.0 c.from_residual-in_err-outcome.ensures.1 _ s0 s2 _ _ c.in_err-outcome.ensures.trial
+
+pub returns-in_err-stand_both-clause-trial : goal.returns-in_err-stand_both-clause-trial
+returns-in_err-stand_both-clause-trial g c =
+    let s0 = state g.S.Store c.args.conn.now in
+    let s2 = state g.S.Store c.move_both.new.conn in
+    let s3 = state g.S.Store c.stand_both.new.conn in
+    trial_fell c.from_residual-in_err-stand_both.result c.in_err-stand_both.field-0.0 c.from_residual-in_err-stand_both.ensures.1 _ c.in_ok-outcome.outcome s0 s2 s3 _ c.in_ok-outcome.ensures.trial c.in_err-stand_both.ensures.write
+
+pub returns-in_err-release-clause-trial : goal.returns-in_err-release-clause-trial
+returns-in_err-release-clause-trial g c =
+    let s0 = state g.S.Store c.args.conn.now in
+    let s2 = state g.S.Store c.move_both.new.conn in
+    let s3 = state g.S.Store c.stand_both.new.conn in
+    let s4 = state g.S.Store c.release.new.conn in
+    let t3 = write_marked c.in_ok-outcome.outcome (Ok c.in_ok-stand_both.field-0) s0 s2 s3 c.in_ok-outcome.ensures.trial c.in_ok-stand_both.ensures.write in
+    let e = c.in_err-release.ensures in
+    trial_handed c.from_residual-in_err-release.result c.in_err-release.field-0.0 c.from_residual-in_err-release.ensures.1 ℕ s0 s4 _ _ (release_trial {Y = ℕ} c.in_ok-stand_both.field-0 (Err c.in_err-release.field-0.0) s0 s3 s4 t3 e.ok e.err e.why e.opened e.later)
