@@ -11,7 +11,7 @@ const LONGEST: usize = 35;
 
 /// The plain number of a safekeeping account: 1 to 35 printable characters, 0x20 to 0x7E
 /// (ISO 15022, field 97A, format 35x; the standard's set x has fewer characters).
-#[derive(Clone, Copy, Debug, PartialEq, Eq, PartialOrd, Ord)]
+#[derive(Clone, Copy, PartialEq, Eq, PartialOrd, Ord)]
 pub struct AccountId {
     // with room for whole words, by which it is compared
     text: ShortText<40>,

@@ -11,7 +11,7 @@ use std::marker::Model;
 const HEAD_OFFICE: &[u8] = b"XXX";
 
 /// A party's BIC, of eight characters, or eleven with a branch other than XXX (ISO 9362).
-#[derive(Clone, Copy, Debug, PartialEq, Eq, PartialOrd, Ord)]
+#[derive(Clone, Copy, PartialEq, Eq, PartialOrd, Ord)]
 pub struct Bic {
     // with room for whole words, by which it is compared
     text: ShortText<16>,

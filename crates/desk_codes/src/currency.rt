@@ -4,7 +4,7 @@ ghost use Rattle.desk_codes.specs.declared.currency.Ccy.{Ccy};
 ghost use Rattle.desk_codes.specs.Currency.{ccy_of, letters_of, decimals_of};
 
 /// A currency of the desk (ISO 4217), in the order of the letters.
-#[derive(Clone, Copy, Debug, PartialEq, Eq, PartialOrd, Ord)]
+#[derive(Clone, Copy, PartialEq, Eq, PartialOrd, Ord)]
 pub enum Ccy {
     /// Swiss franc
     Chf,

@@ -17,7 +17,7 @@ use std::marker::Model;
 
 /// A day of the years 0000 to 9999, as eight digits YYYYMMDD (ISO 15022, format 8!n). The order of the
 /// digits is the order of the calendar.
-#[derive(Clone, Copy, Debug)]
+#[derive(Clone, Copy)]
 pub struct Day {
     digits: [u8; 8],
 }

@@ -15,7 +15,7 @@ use std::cmp::Ordering;
 use std::marker::Model;
 
 /// An ISIN: two letters, nine letters or digits, and their check digit (ISO 6166).
-#[derive(Clone, Copy, Debug)]
+#[derive(Clone, Copy)]
 pub struct Isin {
     bytes: [u8; 12],
 }

@@ -11,7 +11,7 @@ const LONGEST: usize = 16;
 
 /// A sender's reference: 1 to 16 printable characters, 0x20 to 0x7E, no slash first or last and no two together
 /// (ISO 15022, field 20C, format 16x; the standard's set x has fewer characters).
-#[derive(Clone, Copy, Debug, PartialEq, Eq, PartialOrd, Ord)]
+#[derive(Clone, Copy, PartialEq, Eq, PartialOrd, Ord)]
 pub struct Reference {
     text: ShortText<16>,
 }

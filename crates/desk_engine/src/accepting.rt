@@ -15,7 +15,7 @@ use desk_rules::Entry;
 use std::alloc::Global;
 
 /// What a fault leaves of a register.
-#[derive(Clone, Copy, Debug)]
+#[derive(Clone, Copy)]
 pub enum Failure {
     /// Of this fault nothing is left: the register shows what it held before, with no `begin` open.
     Undone(Fault),

@@ -5,7 +5,7 @@ ghost use Rattle.desk_rules.specs.declared.limits.TheConstants.{MOST_ENTRIES};
 use desk_rules::{Reply, State};
 
 /// What came of an accepted entry.
-#[derive(Clone, Copy, Debug)]
+#[derive(Clone, Copy)]
 pub struct Applied {
     /// Its number, from 1
     pub number: u64,
@@ -25,7 +25,7 @@ pub struct Applied {
 }
 
 /// An accepted entry: what came of it, and its reply, as it is kept with it.
-#[derive(Debug, Drop)]
+#[derive(Drop)]
 pub struct Accepted {
     pub applied: Applied,
     pub reply: Reply,

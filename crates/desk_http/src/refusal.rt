@@ -7,7 +7,7 @@ use httparse::Error as HeadError;
 use thiserror::Error;
 
 /// One of HTTP's own refusals: what was sent asks nothing of the desk (RFC 9110, section 15.5; RFC 6585, section 5).
-#[derive(Clone, Copy, Debug)]
+#[derive(Clone, Copy)]
 pub enum Refusal {
     /// 400: what was sent begins no head, or ends before a head or its body is whole; or the length of the body is no
     /// length, or stands there twice

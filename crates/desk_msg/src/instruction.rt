@@ -11,7 +11,7 @@ use std::marker::Model;
 use thiserror::Error;
 
 /// Whether a security is counted in units or by face amount (ISO 15022, field 36B, quantity type code).
-#[derive(Clone, Copy, Debug, PartialEq, Eq, PartialOrd, Ord)]
+#[derive(Clone, Copy, PartialEq, Eq, PartialOrd, Ord)]
 pub enum Kind {
     /// UNIT
     Unit,
@@ -57,7 +57,7 @@ impl Kind {
 
 /// The type of a settlement transaction, as TRAD: four letters or digits (ISO 15022, field 22F,
 /// qualifier SETR).
-#[derive(Clone, Copy, Debug, PartialEq, Eq, PartialOrd, Ord)]
+#[derive(Clone, Copy, PartialEq, Eq, PartialOrd, Ord)]
 pub struct SettlementType {
     code: [u8; 4],
 }
@@ -102,7 +102,7 @@ impl SettlementType {
 
 /// An amount of money above 0, in minor units, whose written form has at most 15 characters (ISO 15022,
 /// format 15d).
-#[derive(Clone, Copy, Debug)]
+#[derive(Clone, Copy)]
 pub struct Cash {
     pub ccy: Ccy,
     pub amount: u64,
@@ -112,7 +112,7 @@ pub struct Cash {
 
 /// An instruction to receive or deliver securities, free or against payment: a new MT540, MT541, MT542 or
 /// MT543. `cash` is there exactly against payment.
-#[derive(Clone, Copy, Debug)]
+#[derive(Clone, Copy)]
 pub struct Instruction {
     /// The message's type, MT540 to MT543
     pub mt: Mt,
@@ -144,7 +144,7 @@ pub struct Instruction {
 }
 
 /// A request to cancel the sender's own instruction of the same type (function CANC).
-#[derive(Clone, Copy, Debug)]
+#[derive(Clone, Copy)]
 pub struct CancelOrder {
     pub mt: Mt,
     /// The sender's reference (20C SEME)

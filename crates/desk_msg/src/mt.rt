@@ -7,7 +7,7 @@ ghost use Rattle.desk_msg.specs.Named.{ReadsType};
 use thiserror::Error;
 
 /// A message type of settlement (ISO 15022, category 5): 540 to 543 instruct, 544 to 547 confirm.
-#[derive(Clone, Copy, Debug, PartialEq, Eq)]
+#[derive(Clone, Copy, PartialEq, Eq)]
 pub enum Mt {
     /// Receive free
     Mt540,

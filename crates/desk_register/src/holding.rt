@@ -3,7 +3,7 @@
 use desk_codes::Isin;
 
 /// A security, and how much of it an account holds.
-#[derive(Clone, Copy, Debug)]
+#[derive(Clone, Copy)]
 pub struct Holding {
     pub isin: Isin,
     pub quantity: u64,

@@ -34,7 +34,7 @@ pub enum Stage {
 }
 
 /// Why a call gives no answer.
-#[derive(Clone, Copy, Debug)]
+#[derive(Clone, Copy)]
 pub enum Fault {
     /// 60: want of memory
     Memory,

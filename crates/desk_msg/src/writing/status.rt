@@ -25,7 +25,7 @@ pub enum Own {
 }
 
 /// Why a matched instruction isn't settled (ISO 15022, field 24B, qualifier PEND).
-#[derive(Clone, Copy, Debug, PartialEq, Eq, PartialOrd, Ord)]
+#[derive(Clone, Copy, PartialEq, Eq, PartialOrd, Ord)]
 pub enum Reason {
     /// FUTU: no run has tried it yet
     Future,

@@ -8,7 +8,7 @@ use std::alloc::{AllocError, Global};
 use std::marker::Model;
 
 /// A text of the desk's own.
-#[derive(Debug, Drop)]
+#[derive(Drop)]
 pub struct Text {
     bytes: Vec<u8>,
 }
@@ -45,7 +45,7 @@ impl Text {
 }
 
 /// An answer to a request.
-#[derive(Debug, Drop)]
+#[derive(Drop)]
 pub struct Reply {
     /// 200 where it was accepted, or answered again, for the totals, and where a question is answered; 400 where it
     /// could not be read; 422 where it was refused
@@ -86,7 +86,7 @@ pub struct Notice {
 }
 
 /// A message that the desk sent.
-#[derive(Debug, Drop)]
+#[derive(Drop)]
 pub struct Sent {
     /// The participant that it was sent to
     pub bic: Bic,

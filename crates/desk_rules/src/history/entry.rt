@@ -21,7 +21,7 @@ pub struct Instructed {
 }
 
 /// So much of a security put on an account, or taken off it.
-#[derive(Clone, Copy, Debug)]
+#[derive(Clone, Copy)]
 pub struct Movement {
     pub reference: Reference,
     pub account: AccountId,
@@ -33,7 +33,7 @@ pub struct Movement {
 }
 
 /// So much cash paid in by a participant, or paid out to it.
-#[derive(Clone, Copy, Debug)]
+#[derive(Clone, Copy)]
 pub struct Payment {
     pub reference: Reference,
     pub bic: Bic,
@@ -45,7 +45,7 @@ pub struct Payment {
 }
 
 /// How often a run goes over the due pairs.
-#[derive(Clone, Copy, Debug)]
+#[derive(Clone, Copy)]
 pub enum RunRule {
     /// Once
     OnePass,
@@ -54,7 +54,7 @@ pub enum RunRule {
 }
 
 /// A command, to be decided on or accepted: of the operator, or a message of a participant.
-#[derive(Clone, Copy, Debug)]
+#[derive(Clone, Copy)]
 pub enum Entry {
     /// A new participant
     Participant {

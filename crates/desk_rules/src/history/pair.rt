@@ -3,14 +3,14 @@ ghost use Rattle.std.specs.Prelude.{◌≡◌};
 ghost use Rattle.desk_rules.specs.Settlement.{is_past};
 
 /// Two opposite instructions by their entry numbers. The pair's number is that of the later entry.
-#[derive(Clone, Copy, Debug, PartialEq, Eq)]
+#[derive(Clone, Copy, PartialEq, Eq)]
 pub struct Pair {
     pub earlier: u64,
     pub later: u64,
 }
 
 /// A pair that a run settled.
-#[derive(Clone, Copy, Debug, PartialEq, Eq)]
+#[derive(Clone, Copy, PartialEq, Eq)]
 pub struct Settled {
     /// The run's entry number
     pub run: u64,
@@ -20,7 +20,7 @@ pub struct Settled {
 }
 
 /// A place in the order in which a run takes pairs: by settlement day, then by number.
-#[derive(Clone, Copy, Debug, PartialEq, Eq, PartialOrd, Ord)]
+#[derive(Clone, Copy, PartialEq, Eq, PartialOrd, Ord)]
 pub struct Place {
     /// The settlement day, as the number YYYYMMDD
     pub day: u64,

@@ -3,7 +3,7 @@
 use desk_msg::Reason;
 
 /// How far an instruction has come.
-#[derive(Clone, Copy, Debug, PartialEq, Eq)]
+#[derive(Clone, Copy, PartialEq, Eq)]
 pub enum State {
     /// It is no instruction.
     NoInstruction,
@@ -15,7 +15,7 @@ pub enum State {
 }
 
 /// Where an entry stands: its mate, its state, and whether its cancellation was requested.
-#[derive(Clone, Copy, Debug)]
+#[derive(Clone, Copy)]
 pub struct Standing {
     /// The number of the other instruction of its pair
     pub mate: Option<u64>,
