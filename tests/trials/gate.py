@@ -3,7 +3,7 @@
 import os
 import re
 
-from .room import BASH, TESTS, copy, fails, passes, run, write_script
+from .room import BASH, TESTS, copy, fails, passes, run, write, write_script
 
 TOOLS = ["rt", "python3", "gcc", "git"]
 WELL = "echo '99999 passed, 0 failed'"
@@ -39,17 +39,29 @@ def proofs(programs):
     return "sleep 0.05", f"for it in {made}; do mkdir -p ${{it%/*}}; >$it; chmod +x $it; done", WELL
 
 
-def trials_of_parts(room):
-    for part in parts(room):
+def change(room, names, old, new):
+    """Changes what made-up parts do. Gives what they did."""
+    were = {}
+    for part in names:
         path = made(room, part)
         with open(path, encoding="utf-8") as file:
-            sound = file.read()
-        for fault, ((old, new), why) in FAULTS.items():
-            with open(path, "w", encoding="utf-8") as file:
-                file.write(sound.replace(old, new))
-            yield fails(f"{part} {fault}", run(room, "./test"), why.format(part))
-        with open(path, "w", encoding="utf-8") as file:
-            file.write(sound)
+            were[path] = file.read()
+        write(path, were[path].replace(old, new))
+    return were
+
+
+def trials_of_parts(room):
+    """Each part fails once alone; in each other way one goes wrong alone, and then all at once, so that each is told."""
+    names = list(parts(room))
+    alone = [(fault, [part]) for fault in FAULTS for part in (names if fault == "fails once" else names[:1])]
+    for fault, changed in alone + [(fault, names) for fault in FAULTS if fault != "fails once"]:
+        change_of_text, why = FAULTS[fault]
+        were = change(room, changed, *change_of_text)
+        ran = run(room, "./test")
+        for part in changed:
+            yield fails(f"{part} {fault}", ran, why.format(part))
+        for path, text in were.items():
+            write(path, text)
 
 
 def trials_of_tables(room):
