@@ -2,7 +2,7 @@
 ghost use Rattle.std.specs.Prelude.{◌<◌};
 
 use crate::book::streams::{FailingSink, FailingSource};
-use crate::made::new_desk;
+use crate::made::{given, new_desk};
 use desk_book::*;
 use desk_register::Register;
 use desk_rules::MOST_ENTRIES;
@@ -48,7 +48,7 @@ fn play(
 ) -> Result<(Option<PlayFault>, u64), Fail> {
     let mut desk = new_desk(alloc, MOST_ENTRIES);
     let fault = desk.play(alloc, reader, writer).err();
-    Ok((fault, desk.into_register().count(alloc)?))
+    Ok((fault, given(desk.into_register().count(alloc))?))
 }
 
 /// Plays it read in such pieces, where one read fails (0: none). How that ends, and after how many reads.

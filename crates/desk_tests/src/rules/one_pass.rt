@@ -1,5 +1,6 @@
 //! What a register kept, and a run of one pass behind it, taken in by another register. The engine gives what the definitions
 //! say, so its reply to the run shows that these say what is told of one pass here.
+use crate::made::given;
 use crate::rules::chain::{UNITS, played};
 use desk_codes::{Day, Reference};
 use desk_engine::replay;
@@ -11,8 +12,8 @@ use std::test::Fail;
 
 /// What a register keeps of the entry of a number.
 fn kept_at(alloc: Global, register: &mut ListRegister, number: u64) -> Result<Kept, Fail> {
-    let entry = register.entry(alloc, number)?;
-    let reply = register.reply(alloc, number)?;
+    let entry = given(register.entry(alloc, number))?;
+    let reply = given(register.reply(alloc, number))?;
     match (entry, reply) {
         (Some(entry), Some(reply)) => Ok(Kept { entry, reply }),
         _ => Err("an entry is not kept")?,
@@ -39,12 +40,12 @@ fn run_once(alloc: Global, text: &[u8]) -> Result<Kept, Fail> {
 fn is_taken_in(alloc: Global, text: &[u8]) -> Result<bool, Fail> {
     let mut played = played(alloc, UNITS, b"")?;
     let mut kept = Vec::new(alloc);
-    for number in 1..=played.count(alloc)? {
+    for number in 1..=given(played.count(alloc))? {
         kept.push(kept_at(alloc, &mut played, number)?)?;
     }
     kept.push(run_once(alloc, text)?)?;
     let mut register = ListRegister::new(alloc, MOST_ENTRIES);
-    Ok(replay(alloc, &mut register, &kept)?)
+    given(replay(alloc, &mut register, &kept))
 }
 
 /// The first delivery is tried before the second one brings what it delivers, and not again: it waits.

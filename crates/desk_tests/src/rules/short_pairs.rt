@@ -1,4 +1,5 @@
 //! Which pairs a register knows to stay short.
+use crate::made::given;
 use crate::rules::chain::{UNITS, played};
 use desk_codes::Day;
 use desk_register::Register;
@@ -39,8 +40,8 @@ fn what_is_brought_to_one_pair_leaves_another_short(rt: HostRuntime) -> Result<(
     let alloc = rt.alloc();
     let by = Day::read(b"20240229").ok_or("no day")?;
     let mut register = played(alloc, b"", &runs_and_units(alloc)?)?;
-    assert!(rt; register.pair_to_try_after(alloc, by, None)? == Some(SECOND));
-    assert!(rt; register.stays_short(alloc, FIRST)?);
-    assert!(rt; !register.stays_short(alloc, SECOND)?);
+    assert!(rt; given(register.pair_to_try_after(alloc, by, None))? == Some(SECOND));
+    assert!(rt; given(register.stays_short(alloc, FIRST))?);
+    assert!(rt; !given(register.stays_short(alloc, SECOND))?);
     Ok(())
 }
