@@ -18,8 +18,8 @@ use Rattle.desk_register.specs.declared.register.Stage.TheVariants.{Idle}
 use Rattle.sql_register.specs.Content.{content_in}
 use Rattle.sql_register.specs.Kept.{IsKept, Kept}
 use Rattle.memory_register.specs.declared.list_register.ListRegister.{ListRegister}
-use Rattle.desk_mirror.specs.Both.{Both}
-use Rattle.desk_opening.specs.Opened.{view_of_both}
+use Rattle.desk_file.specs.Both.{Both}
+use Rattle.desk_file.specs.Opened.{view_of_both}
 use Rattle.desk_book.specs.Held.{Holds}
 use Rattle.desk_engine.specs.Ready.{IsReady, KeepsFormed}
 use Rattle.desk.specs.Closed.{AreClosed}

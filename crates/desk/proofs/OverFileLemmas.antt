@@ -10,7 +10,7 @@ use Rattle.desk_register.specs.View.{View}
 use Rattle.desk_book.specs.Answered.{AnsweredInTurn}
 use Rattle.desk_book.specs.DeskValue.{DeskValue}
 use Rattle.desk_engine.specs.Ready.{KeepsFormed}
-use Rattle.desk_opening.specs.Opened.{IsReadyFor}
+use Rattle.desk_file.specs.Opened.{IsReadyFor}
 use Rattle.desk.specs.DropAnswer as drops
 use Rattle.desk.specs.Left.{AreLeft, IsLeft, LeavesSome, PassesOn}
 use Rattle.desk.specs.OverFile.{AsksSome, IsAsked, IsDone, IsFileAnswer, IsOpenAnswer, LeavesFiles}

@@ -30,7 +30,7 @@ use Rattle.desk_book.specs.declared.fault.PlayFault.TheVariants as plays
 use Rattle.desk.specs.Input.{MayGiveNone, failure_of}
 use Rattle.desk.specs.Left.{IsLeft, PassesOn}
 use Rattle.desk.specs.PlayAnswer.{AreHeld, IsOpenPlayAnswer, IsPlayedAnyhow, KeptBy, PlaysFrom, told_opened, IsLeftAnyhow, IsReplyOrMemory, IsPlayAnswer, IsPlayAnswerFrom, IsPlayed, IsPlayedFrom, IsPlayedInFront, IsPlayedInPart, IsPlayTold, IsFilePlayAnswer, told_answers, told_answers_from, told_from, told_no_script_from, told_unclosed}
-use Rattle.desk_opening.specs.Opened.{IsReadyFor}
+use Rattle.desk_file.specs.Opened.{IsReadyFor}
 use Rattle.desk.specs.Status.{Ends, EndsBy, IsFailureTold, failure_line}
 use Rattle.desk.specs.declared.status.Failure.{Failure}
 use Rattle.desk.specs.declared.status.Failure.TheVariants as failure

@@ -16,7 +16,7 @@ use Rattle.desk_book.specs.WrittenTo.{WritesAsked, leaves_closed, reply_with}
 use Rattle.desk_book.specs.declared.answers.head.Head.{Head}
 use Rattle.desk_book.specs.declared.fault.ToFault.{ToFault}
 use Rattle.desk_book.specs.declared.fault.ToFault.TheVariants as to
-use Rattle.desk_opening.specs.Opened.{IsReadyFor}
+use Rattle.desk_file.specs.Opened.{IsReadyFor}
 use Rattle.desk.specs.Left.{AreLeft, IsLeft, PassesOn}
 use Rattle.desk.specs.PlayAnswer.{AreHeld, KeptBy}
 use Rattle.desk.specs.ReportAnswer.{IsOpenReportAnswer, IsReportFrom, IsReportTold, LeavesBooks, ReportsFrom, told_answer, told_from, told_front, told_unclosed}

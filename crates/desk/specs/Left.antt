@@ -15,13 +15,13 @@ use Rattle.desk_rules.specs.declared.answers.reply.Reply.{Reply}
 use Rattle.desk_register.specs.View.{View}
 use Rattle.memory_register.specs.ListsView.{view_of_lists}
 use Rattle.memory_register.specs.declared.list_register.ListRegister.{ListRegister}
-use Rattle.desk_mirror.specs.Both.{Both}
+use Rattle.desk_file.specs.Both.{Both}
 use Rattle.sql_register.specs.Kept.{Kept}
 use Rattle.desk_book.specs.Answered.{AnsweredInTurn}
 use Rattle.desk_book.specs.Asked.{Asked}
 use Rattle.desk_book.specs.Held.{Holds}
-use Rattle.desk_opening.specs.Opened.{FindsIn}
-use Rattle.desk_opening.specs.Said.{SaysBooks}
+use Rattle.desk_file.specs.Opened.{FindsIn}
+use Rattle.desk_file.specs.Said.{SaysBooks}
 use Rattle.desk_book.specs.declared.fault.Fault.{Fault}
 
 -- What was opened is what files held that hold this, where no wrong answer of the device was taken as true.

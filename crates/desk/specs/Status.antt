@@ -5,8 +5,8 @@ use Rattle.std.specs.declared.io.ErrorKind.{ErrorKind as IoKind}
 use Rattle.std.specs.declared.io.ErrorKind.TheVariants as io_kind
 use Rattle.clap.specs.declared.error.kind.ErrorKind.{ErrorKind}
 use Rattle.clap.specs.declared.error.kind.ErrorKind.TheVariants as kind
-use Rattle.desk_opening.specs.declared.fault.OpenFault.{OpenFault}
-use Rattle.desk_opening.specs.declared.fault.OpenFault.TheVariants as opening
+use Rattle.desk_file.specs.declared.fault.OpenFault.{OpenFault}
+use Rattle.desk_file.specs.declared.fault.OpenFault.TheVariants as opening
 use Rattle.desk.specs.declared.status.Status.{Status}
 use Rattle.desk.specs.declared.status.Status.TheVariants.{Done, Refused, Usage, Fault}
 use Rattle.desk.specs.declared.status.Failure.{Failure}

@@ -7,7 +7,7 @@ ghost use Rattle.sqlite_wal.specs.Files.{image_at};
 ghost use Rattle.desk_rules.specs.Books.{Books};
 ghost use Rattle.desk_rules.specs.declared.limits.TheConstants.{MOST_ENTRIES};
 ghost use Rattle.desk_engine.specs.Ready.{IsReady};
-ghost use Rattle.desk_opening.specs.Opened.{IsOpened, IsReadyFor, view_of_both};
+ghost use Rattle.desk_file.specs.Opened.{IsOpened, IsReadyFor, view_of_both};
 ghost use Rattle.desk.specs.Left.{AreLeft, AreSaid, IsFoundIn, IsLeft};
 ghost use Rattle.desk.specs.OverFile.{IsAsked, IsDone, IsFileAnswer, IsOpenAnswer, LeavesFiles};
 ghost use Rattle.desk.specs.PlayAnswer.{AreHeld, KeptBy};
@@ -21,7 +21,7 @@ use crate::store::{FileRegister, close_behind, connection_of, open, open_there, 
 use crate::teller::{Teller, Watch};
 use desk_book::Desk;
 use desk_codes::Bic;
-use desk_mirror::MirroredRegister;
+use desk_file::MirroredRegister;
 use desk_register::Register;
 use desk_streams::{Sink, Source};
 use memory_register::ListRegister;

@@ -6,7 +6,7 @@ ghost use Rattle.desk_words.specs.Causes.{TellsCause};
 ghost use Rattle.desk.specs.Status.{IsFailureTold, failure_line, status_number};
 
 use desk_book::ToFault;
-use desk_opening::OpenFault;
+use desk_file::OpenFault;
 use desk_streams::{InputFault, Sink};
 use std::io;
 use std::process::ExitCode;

@@ -5,7 +5,7 @@ ghost use Rattle.sqlite.specs.Files.{file_state, over_files};
 ghost use Rattle.sqlite.specs.Held.{state};
 ghost use Rattle.sqlite_wal.specs.Files.{image_at};
 ghost use Rattle.desk_register.specs.declared.register.Stage.TheVariants.{Idle};
-ghost use Rattle.desk_opening.specs.Opened.{IsOpened, view_of_both};
+ghost use Rattle.desk_file.specs.Opened.{IsOpened, view_of_both};
 ghost use Rattle.desk_rules.specs.Books.{Books};
 ghost use Rattle.desk_rules.specs.declared.limits.TheConstants.{MOST_ENTRIES};
 ghost use Rattle.desk.specs.Closed.{AreClosed};
@@ -15,8 +15,7 @@ ghost use Rattle.desk.specs.Status.{Ends, IsFailureTold, IsOpeningFailure, IsUno
 
 use crate::status::{Failure, Status, tell_failure};
 use crate::teller::Teller;
-use desk_mirror::MirroredRegister;
-use desk_opening::{OpenFault, is_live, open_file};
+use desk_file::{MirroredRegister, OpenFault, is_live, open_file};
 use desk_rules::MOST_ENTRIES;
 use desk_streams::Sink;
 use memory_register::ListRegister;

@@ -1,7 +1,7 @@
 //! What people are told beside the answers, on standard error, of the file of a desk. No clause speaks of it.
 
 use desk_book::Fault;
-use desk_opening::{Difference, OpenFault, Progress, Table};
+use desk_file::{Difference, OpenFault, Progress, Table};
 use desk_rules::Reply;
 use std::io::{self, IsTerminal};
 

@@ -2,7 +2,7 @@
 
 use desk_book::{Fault as DeskFault, PlayFault, ToFault};
 use desk_codes::CodeFault;
-use desk_opening::OpenFault;
+use desk_file::OpenFault;
 use desk_register::Fault;
 use sqlite::{Error, ErrorCode};
 use std::alloc::{AllocError, AllocFailed};

@@ -1,7 +1,7 @@
 //! A file is opened, and its schema looked at.
 
 use crate::failure::Failure;
-use sql_opening::{has_desk_tables, open_in_order};
+use desk_file::{has_desk_tables, open_in_order};
 use sqlite::Unknown;
 
 /// Tells of a file whether its schema is the desk's. The file is left as it is, but that a new one is made where there is none.

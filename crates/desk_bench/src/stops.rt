@@ -2,7 +2,7 @@
 
 use crate::failure::Failure;
 use crate::tables::{Deed, do_over_tables};
-use desk_opening::adopt;
+use desk_file::adopt;
 use desk_rules::MOST_ENTRIES;
 use sqlite::{Connection, FileStore, Files, Options};
 use sqlite_disk::{Crash, Disk, Fuse, Memory};

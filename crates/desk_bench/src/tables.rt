@@ -3,14 +3,13 @@
 ghost use Rattle.std.specs.Prelude.{false};
 ghost use Rattle.sqlite.specs.Held.{state};
 ghost use Rattle.desk_engine.specs.Ready.{IsReady};
-ghost use Rattle.desk_mirror.specs.Both.{shown as shown_of_both};
-ghost use Rattle.desk_opening.specs.Opened.{view_of_both};
+ghost use Rattle.desk_file.specs.Both.{shown as shown_of_both};
+ghost use Rattle.desk_file.specs.Opened.{view_of_both};
 ghost use Rattle.sql_register.specs.Kept.{shown};
 
 use crate::failure::Failure;
 use desk_book::Desk;
-use desk_mirror::MirroredRegister;
-use desk_opening::{Silent, adopt, adopt_tables, open_file, open_tables};
+use desk_file::{MirroredRegister, Silent, adopt, adopt_tables, open_file, open_tables};
 use desk_register::{MemoryRegister, Register, ToldRegister};
 use desk_rules::MOST_ENTRIES;
 use desk_streams::Source;

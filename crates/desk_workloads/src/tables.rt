@@ -16,7 +16,7 @@ use crate::failure::Failure;
 use crate::memory_file::MemoryFile;
 use crate::size::Size;
 use desk_book::Desk;
-use desk_mirror::MirroredRegister;
+use desk_file::MirroredRegister;
 use desk_register::{Register, ToldRegister};
 use desk_rules::MOST_ENTRIES;
 use memory_register::ListRegister;

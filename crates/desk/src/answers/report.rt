@@ -8,7 +8,7 @@ ghost use Rattle.desk_register.specs.Ends.{at_register};
 ghost use Rattle.desk_engine.specs.Ready.{IsReady, KeepsFormed};
 ghost use Rattle.desk_book.specs.RowByRow.{WritesText};
 ghost use Rattle.memory_register.specs.ListsView.{view_of_lists};
-ghost use Rattle.desk_opening.specs.Opened.{IsReadyFor, view_of_both};
+ghost use Rattle.desk_file.specs.Opened.{IsReadyFor, view_of_both};
 ghost use Rattle.desk_register.specs.View.{IfTrusted, IsRead};
 ghost use Rattle.desk_register.specs.declared.register.Stage.TheVariants.{Idle};
 ghost use Rattle.sqlite.specs.Held.{state};
@@ -19,8 +19,8 @@ ghost use Rattle.desk.specs.OverviewAnswer.{IsAfterScript, IsBrokenOffAs, IsOver
 use crate::status::{Failure, Status, tell_failure};
 use crate::store::connection_of;
 use desk_book::{Desk, PlayFault};
+use desk_file::MirroredRegister;
 use desk_journal::write_journal;
-use desk_mirror::MirroredRegister;
 use desk_msg::SinkFault;
 use desk_register::{Register, WalkFault};
 use desk_report::{Parts, write_report};

@@ -1,7 +1,7 @@
 use Rattle.std.proofs.Common.{◌≡◌, ◌∙◌}
 use Rattle.std.specs.Io.KnownBytes.{Appends}
 use Rattle.sqlite.specs.Held.{state}
-use Rattle.desk_opening.specs.Opened.{view_of_both}
+use Rattle.desk_file.specs.Opened.{view_of_both}
 use Rattle.desk.specs.Left.{AreSaid, IsLeft}
 use Rattle.desk.proofs.LeftLemmas.{said_left}
 use Rattle.desk.proofs.OverFileLemmas.{asked_on_both}

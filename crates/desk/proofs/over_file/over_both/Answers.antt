@@ -1,7 +1,7 @@
 use Rattle.std.proofs.Common.{◌≡◌, refl}
 use Rattle.std.specs.Io.KnownBytes.{Appends}
 use Rattle.sqlite.specs.Held.{state}
-use Rattle.desk_opening.specs.Opened.{view_of_both}
+use Rattle.desk_file.specs.Opened.{view_of_both}
 use Rattle.desk.specs.Left.{AreSaid}
 use Rattle.desk.specs.PlayAnswer.{KeptBy}
 use Rattle.desk.specs.declared.over_file.Job.TheVariants as job

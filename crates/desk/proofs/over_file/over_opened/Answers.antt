@@ -1,7 +1,7 @@
 use Rattle.std.proofs.Common.{◌≡◌}
 use Rattle.std.specs.Io.KnownBytes.{Appends}
 use Rattle.sqlite.specs.Files.{over_files}
-use Rattle.desk_opening.specs.Opened.{view_of_both}
+use Rattle.desk_file.specs.Opened.{view_of_both}
 use Rattle.desk.specs.Left.{AreLeft}
 use Rattle.desk.specs.PlayAnswer.{KeptBy}
 use Rattle.desk.proofs.OverFileLemmas.{left_in_files, opened_told, told_there}

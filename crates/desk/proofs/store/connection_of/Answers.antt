@@ -2,7 +2,7 @@ use Rattle.std.proofs.Common.{◌≡◌, ◌≢◌, ◌∙◌, ap, sym}
 use Rattle.sqlite.specs.Held.{state}
 use Rattle.memory_register.specs.ListsView.{view_of_lists}
 use Rattle.desk_register.specs.declared.register.Stage.TheVariants.{Failed, Idle}
-use Rattle.desk_opening.specs.Opened.{view_of_both}
+use Rattle.desk_file.specs.Opened.{view_of_both}
 use Rattle.desk.proofs.LeftLemmas.{same_handed, tables_say}
 use Rattle.desk.proofs.store.connection_of.Goals as goal
 

@@ -1,5 +1,0 @@
-use Rattle.audit_desk.proofs.PartLemmas.{becomes}
-use Rattle.audit_desk.proofs.laws.is_desk_by_parts.Goals as goal
-
-pub returns : goal.returns
-returns c db limit books content parts few keeps formed = becomes db limit books content parts few keeps formed

@@ -1,4 +1,0 @@
-pub mod Audited
-pub mod Parts
-pub mod Reading
-pub mod Taking

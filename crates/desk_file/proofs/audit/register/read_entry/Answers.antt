@@ -1,0 +1,123 @@
+use Rattle.std.proofs.Common.{subst}
+use Rattle.sqlite.specs.Held.{state}
+use Rattle.sql_entries.specs.Found.{IsFormed, IsFound}
+use Rattle.sql_entries.specs.declared.compared.Found.{Found}
+use Rattle.sql_tables.proofs.LookLemmas.{look_ok}
+use Rattle.desk_file.proofs.HandedLemmas.{blame_none, blame_taken, blame_told, cause_told, done_none, later_none, look_before, look_told, no_answer, no_cause, not_done}
+use Rattle.desk_file.proofs.ReadingLemmas.{more_formed}
+use Rattle.desk_file.proofs.audit.register.read_entry.Goals as goal
+
+pub returns-then-branch-clause-holds : goal.returns-then-branch-clause-holds
+returns-then-branch-clause-holds g c = λ honest sure taken.
+    let v0 = g.R.Register.view c.args.register.now in
+    let v1 = g.R.Register.view c.take.new.register in
+    let e = c.in_ok-take-in-Entry.ensures in
+    let old = c.requires.holds (e.later.honest honest) sure in
+    more_formed v0.room v0.content v1.content c.in-Entry.kept old ((e.next v0.content.register honest sure old.held).held c.if-branch.true) (subst IsFormed c.in-Entry.is c.in_ok-found_at.ensures.formed)
+
+pub returns-in_err-found_at-clause-takes : goal.returns-in_err-found_at-clause-takes
+returns-in_err-found_at-clause-takes g c clean is_open has honest sure formed held = no_answer c.from_residual.result _ _ c.from_residual.ensures.1
+
+pub returns-in_err-found_at-clause-holds : goal.returns-in_err-found_at-clause-holds
+returns-in_err-found_at-clause-holds g c honest sure = no_answer c.from_residual.result _ _ c.from_residual.ensures.1
+
+pub returns-in_err-found_at-clause-same : goal.returns-in_err-found_at-clause-same
+returns-in_err-found_at-clause-same g c honest sure = no_answer c.from_residual.result _ _ c.from_residual.ensures.1
+
+pub returns-in_err-found_at-clause-look : goal.returns-in_err-found_at-clause-look
+returns-in_err-found_at-clause-look g c =
+    let s0 = state g.S.Store c.args.conn.now in
+    let s1 = state g.S.Store c.found_at.new.conn in
+    look_told c.in_err-found_at.field-0.0 c.from_residual.result c.from_residual.ensures.1 Found s0 s1 c.in_err-found_at.ensures.look
+
+pub returns-in_err-found_at-clause-cause : goal.returns-in_err-found_at-clause-cause
+returns-in_err-found_at-clause-cause g c clean is_open has =
+    let s0 = state g.S.Store c.args.conn.now in
+    let s1 = state g.S.Store c.found_at.new.conn in
+    cause_told c.in_err-found_at.field-0.0 c.from_residual.result c.from_residual.ensures.1 s0 s1 (c.in_err-found_at.ensures.blame clean is_open has)
+
+pub returns-in_err-found_at-clause-done : goal.returns-in_err-found_at-clause-done
+returns-in_err-found_at-clause-done g c = not_done c.from_residual.result _ _ c.from_residual.ensures.1
+
+pub returns-in_err-found_at-clause-later : goal.returns-in_err-found_at-clause-later
+returns-in_err-found_at-clause-later g c = later_none _
+
+pub returns-in_err-found_at-clause-blame : goal.returns-in_err-found_at-clause-blame
+returns-in_err-found_at-clause-blame g c kept = blame_told c.in_err-found_at.field-0.0 c.from_residual.result c.from_residual.ensures.1 _ _
+
+pub returns-in-Nothing-clause-look : goal.returns-in-Nothing-clause-look
+returns-in-Nothing-clause-look g c =
+    let s0 = state g.S.Store c.args.conn.now in
+    let s1 = state g.S.Store c.found_at.new.conn in
+    look_ok c.in_ok-found_at.field-0 tt s0 s1 c.in_ok-found_at.ensures.look
+
+pub returns-in-Nothing-clause-done : goal.returns-in-Nothing-clause-done
+returns-in-Nothing-clause-done g c = done_none _ c.requires.stage
+
+pub returns-in-Nothing-clause-later : goal.returns-in-Nothing-clause-later
+returns-in-Nothing-clause-later g c = later_none _
+
+pub returns-in-Nothing-clause-blame : goal.returns-in-Nothing-clause-blame
+returns-in-Nothing-clause-blame g c kept = blame_none tt _ _
+
+pub returns-in-Another-clause-look : goal.returns-in-Another-clause-look
+returns-in-Another-clause-look g c =
+    let s0 = state g.S.Store c.args.conn.now in
+    let s1 = state g.S.Store c.found_at.new.conn in
+    look_ok c.in_ok-found_at.field-0 tt s0 s1 c.in_ok-found_at.ensures.look
+
+pub returns-in-Another-clause-done : goal.returns-in-Another-clause-done
+returns-in-Another-clause-done g c = done_none _ c.requires.stage
+
+pub returns-in-Another-clause-later : goal.returns-in-Another-clause-later
+returns-in-Another-clause-later g c = later_none _
+
+pub returns-in-Another-clause-blame : goal.returns-in-Another-clause-blame
+returns-in-Another-clause-blame g c kept = blame_none tt _ _
+
+pub returns-in_err-take-in-Entry-clause-takes : goal.returns-in_err-take-in-Entry-clause-takes
+returns-in_err-take-in-Entry-clause-takes g c clean is_open has honest sure formed held = no_answer c.from_residual-in_err-take-in-Entry.result _ _ c.from_residual-in_err-take-in-Entry.ensures.1
+
+pub returns-in_err-take-in-Entry-clause-holds : goal.returns-in_err-take-in-Entry-clause-holds
+returns-in_err-take-in-Entry-clause-holds g c honest sure = no_answer c.from_residual-in_err-take-in-Entry.result _ _ c.from_residual-in_err-take-in-Entry.ensures.1
+
+pub returns-in_err-take-in-Entry-clause-same : goal.returns-in_err-take-in-Entry-clause-same
+returns-in_err-take-in-Entry-clause-same g c honest sure = no_answer c.from_residual-in_err-take-in-Entry.result _ _ c.from_residual-in_err-take-in-Entry.ensures.1
+
+pub returns-in_err-take-in-Entry-clause-look : goal.returns-in_err-take-in-Entry-clause-look
+returns-in_err-take-in-Entry-clause-look g c =
+    let s0 = state g.S.Store c.args.conn.now in
+    let s1 = state g.S.Store c.found_at.new.conn in
+    look_before c.in_err-take-in-Entry.field-0.0 c.from_residual-in_err-take-in-Entry.result c.from_residual-in_err-take-in-Entry.ensures.1 s0 s1 (look_ok c.in_ok-found_at.field-0 tt s0 s1 c.in_ok-found_at.ensures.look)
+
+pub returns-in_err-take-in-Entry-clause-cause : goal.returns-in_err-take-in-Entry-clause-cause
+returns-in_err-take-in-Entry-clause-cause g c clean is_open has =
+    let s0 = state g.S.Store c.args.conn.now in
+    let s1 = state g.S.Store c.found_at.new.conn in
+    no_cause c.in_err-take-in-Entry.field-0.0 c.from_residual-in_err-take-in-Entry.result c.from_residual-in_err-take-in-Entry.ensures.1 s0 s1
+
+pub returns-in_err-take-in-Entry-clause-done : goal.returns-in_err-take-in-Entry-clause-done
+returns-in_err-take-in-Entry-clause-done g c = not_done c.from_residual-in_err-take-in-Entry.result _ _ c.from_residual-in_err-take-in-Entry.ensures.1
+
+pub returns-in_err-take-in-Entry-clause-blame : goal.returns-in_err-take-in-Entry-clause-blame
+returns-in_err-take-in-Entry-clause-blame g c kept = blame_taken c.in_err-take-in-Entry.field-0.0 c.from_residual-in_err-take-in-Entry.result c.from_residual-in_err-take-in-Entry.ensures.1 _ _ (c.in_err-take-in-Entry.ensures.blame kept)
+
+pub returns-then-branch-clause-takes : goal.returns-then-branch-clause-takes
+returns-then-branch-clause-takes g c clean is_open has honest sure formed held taken =
+    let s0 = state g.S.Store c.args.conn.now in
+    let v0 = g.R.Register.view c.args.register.now in
+    let found = c.in_ok-found_at.ensures.found clean is_open has formed in
+    record {
+      kept = c.in-Entry.kept;
+      is = subst (IsFound (s0.now.trees 6) c.args.number) c.in-Entry.is found;
+      held = (c.in_ok-take-in-Entry.ensures.next v0.content.register honest sure held).held c.if-branch.true;
+    }
+
+pub returns-then-branch-clause-look : goal.returns-then-branch-clause-look
+returns-then-branch-clause-look g c =
+    let s0 = state g.S.Store c.args.conn.now in
+    let s1 = state g.S.Store c.found_at.new.conn in
+    look_ok c.in_ok-found_at.field-0 tt s0 s1 c.in_ok-found_at.ensures.look
+
+pub returns-then-branch-clause-blame : goal.returns-then-branch-clause-blame
+returns-then-branch-clause-blame g c kept = blame_none tt _ _

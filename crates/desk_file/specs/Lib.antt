@@ -1,0 +1,17 @@
+pub mod Alone
+pub mod Audited
+pub mod Both
+pub mod Checks
+pub mod Course
+pub mod Faults
+pub mod Mirrored
+pub mod Opened
+pub mod Outline
+pub mod Parts
+pub mod Reading
+pub mod Said
+pub mod Spared
+pub mod Tables
+pub mod Taking
+pub mod Told
+pub mod Waiting

@@ -1,0 +1,108 @@
+//! A database beside a register in memory that is filled from it.
+ghost use Rattle.std.specs.Prelude.{◌≡◌, ◌≢◌, ◌≤◌, [], true, IfOk, IsTrue, OnOk};
+ghost use Rattle.sqlite.specs.Held.{state};
+ghost use Rattle.sqlite.specs.State.{HasCleanDisk};
+ghost use Rattle.desk_engine.specs.Accepting.{IsDone};
+ghost use Rattle.desk_register.specs.View.{IfTrusted, IsLater};
+ghost use Rattle.desk_engine.specs.KeptHistory.{HoldsKept};
+ghost use Rattle.desk_rules.specs.declared.limits.TheConstants.{MOST_ENTRIES};
+ghost use Rattle.sql_tables.specs.Calls.{Soundly, tables};
+ghost use Rattle.sql_tables.specs.Making.{KeepsCommitted};
+ghost use Rattle.sql_tables.specs.Schema.{desk_schema};
+ghost use Rattle.sql_tables.specs.Forms.{AreAllFormed};
+ghost use Rattle.sql_tables.specs.Order.{AreInOrder};
+ghost use Rattle.sql_tables.specs.Audits.{of_register, Audits, AuditsForCause};
+ghost use Rattle.desk_file.specs.Reading.{HoldsFormed};
+ghost use Rattle.desk_file.specs.Taking.{BlamesTaking};
+ghost use Rattle.desk_file.specs.Audited.{IsAudited, IsFilled};
+
+use crate::audit::progress::Progress;
+use crate::audit::register::{Reading, read_register};
+use crate::audit::rest::{Table, first_other};
+use crate::schema::ours::has_desk_tables;
+use desk_register::{Messages, Stage};
+use sql_tables::compared::has_version;
+use sql_tables::fault::AuditFault;
+use sqlite::{Alter, Connection};
+use std::alloc::Global;
+
+/// What an audit found.
+#[derive(Clone, Copy)]
+pub enum Audited {
+    /// The database is that of an accepted history.
+    Whole,
+    /// It has other tables than the desk's, or others beside.
+    OtherTables,
+    /// Its tables are of another version.
+    OtherVersion,
+    /// The row of this number in `register` is not that of an entry which is accepted behind those before it with the kept
+    /// reply; or it lacks, and there are rows of other numbers.
+    OtherEntry(u64),
+    /// This table says something else than the entries come to.
+    Differs(Table),
+}
+
+/// Fills a register that holds nothing from the table `register`, and compares the tables beside it with what the register says
+/// then.
+fn fill<S: Alter, R: Messages, P: Progress>(
+    alloc: Global,
+    conn: &mut Connection<S>,
+    register: &mut R,
+    progress: &mut P,
+) -> Result<Audited, AuditFault>
+    requires stage { (R.Register.view register.old).stage ≡ Stage.Idle }
+    requires empty { IfTrusted (R.Register.view register.old) (R.Register.view register.old) (HoldsKept (R.Register.view register.old).room [] (R.Register.view register.old).content) }
+    ensures filled { Soundly S.Store conn.old conn.new (IfTrusted (R.Register.view register.old) (R.Register.view register.new)
+        (AreInOrder desk_schema (tables S.Store conn.old).trees → AreAllFormed (tables S.Store conn.old).trees
+        → IfOk result (λ audited. audited ≡ Audited.Whole → IsFilled (tables S.Store conn.old) (R.Register.view register.old).room (R.Register.view register.new).content))) }
+    ensures holds { IfTrusted (R.Register.view register.old) (R.Register.view register.new) (IfOk result (λ audited. audited ≡ Audited.Whole → HoldsFormed (R.Register.view register.old).room (R.Register.view register.new).content)) }
+    ensures not_other { IfOk result (λ audited. audited ≢ Audited.OtherTables) }
+    ensures look { Audits S.Store conn.old conn.new result }
+    ensures cause { Soundly S.Store conn.old conn.new (IfTrusted (R.Register.view register.old) (R.Register.view register.new)
+        (AreInOrder desk_schema (tables S.Store conn.old).trees → AreAllFormed (tables S.Store conn.old).trees → AuditsForCause S.Store conn.old conn.new result)) }
+    ensures done { OnOk result (IsDone (R.Register.view register.old) (R.Register.view register.new)) }
+    ensures later { IsLater (R.Register.view register.old) (R.Register.view register.new) }
+    ensures blame { R.Register.in_memory ≡ true → BlamesTaking (of_register result) (R.Register.view register.old) (R.Register.view register.new) }
+{
+    match read_register(alloc, conn, register, progress)? {
+        Reading::Whole => {}
+        Reading::Stops(number) => return Ok(Audited::OtherEntry(number)),
+    }
+    match first_other(alloc, conn, register)? {
+        Some(table) => Ok(Audited::Differs(table)),
+        None => Ok(Audited::Whole),
+    }
+}
+
+/// Audits a database whose rows stand in order, and fills a register that holds nothing from it. Where it is whole, it is that
+/// of an accepted history, and the register holds its content; that it holds some accepted history rests on no answer of the
+/// tables. Else, and after a fault, the register should be given up. `progress` is told how many entries are taken in.
+pub fn audit<S: Alter, R: Messages, P: Progress>(
+    alloc: Global,
+    conn: &mut Connection<S>,
+    register: &mut R,
+    progress: &mut P,
+) -> Result<Audited, AuditFault>
+    requires stage { (R.Register.view register.old).stage ≡ Stage.Idle }
+    requires empty { IfTrusted (R.Register.view register.old) (R.Register.view register.old) (HoldsKept (R.Register.view register.old).room [] (R.Register.view register.old).content) }
+    ensures whole { HasCleanDisk (state S.Store conn.new) → IsTrue (state S.Store conn.old).is_open → IfTrusted (R.Register.view register.old) (R.Register.view register.new)
+        (AreInOrder (tables S.Store conn.old).schema (tables S.Store conn.old).trees → (R.Register.view register.old).room ≤ MOST_ENTRIES
+        → IfOk result (λ audited. audited ≡ Audited.Whole → IsAudited (tables S.Store conn.old) (R.Register.view register.old).room (R.Register.view register.new).content)) }
+    ensures holds { IfTrusted (R.Register.view register.old) (R.Register.view register.new) (IfOk result (λ audited. audited ≡ Audited.Whole → HoldsFormed (R.Register.view register.old).room (R.Register.view register.new).content)) }
+    ensures kept { HasCleanDisk (state S.Store conn.new) → IsTrue (state S.Store conn.old).is_open → KeepsCommitted (state S.Store conn.old) (state S.Store conn.new) }
+    ensures other_tables { IfOk result (λ audited. audited ≡ Audited.OtherTables → (tables S.Store conn.old).schema ≢ desk_schema) }
+    ensures look { Audits S.Store conn.old conn.new result }
+    ensures cause { HasCleanDisk (state S.Store conn.new) → IsTrue (state S.Store conn.old).is_open → IfTrusted (R.Register.view register.old) (R.Register.view register.new)
+        (AreInOrder (tables S.Store conn.old).schema (tables S.Store conn.old).trees → AuditsForCause S.Store conn.old conn.new result) }
+    ensures done { OnOk result (IsDone (R.Register.view register.old) (R.Register.view register.new)) }
+    ensures later { IsLater (R.Register.view register.old) (R.Register.view register.new) }
+    ensures blame { R.Register.in_memory ≡ true → BlamesTaking (of_register result) (R.Register.view register.old) (R.Register.view register.new) }
+{
+    if !has_desk_tables(conn) {
+        return Ok(Audited::OtherTables);
+    }
+    if !has_version(conn)? {
+        return Ok(Audited::OtherVersion);
+    }
+    fill(alloc, conn, register, progress)
+}

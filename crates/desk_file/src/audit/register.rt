@@ -1,0 +1,126 @@
+//! The register, read entry by entry.
+ghost use Rattle.std.specs.Prelude.{◌≡◌, ◌<◌, ◌^◌, [], true, IfOk, OnOk};
+ghost use Rattle.std.specs.List.{AllByRecursion};
+ghost use Rattle.desk_engine.specs.Accepting.{IsDone};
+ghost use Rattle.desk_register.specs.View.{IfTrusted, IsLater};
+ghost use Rattle.desk_engine.specs.KeptHistory.{HoldsKept};
+ghost use Rattle.sql_tables.specs.Calls.{FailsForCause, Looks, Soundly, tables};
+ghost use Rattle.sql_tables.specs.Schema.{desk_schema, register_table};
+ghost use Rattle.sql_tables.specs.Forms.{AreAllFormed, HasForm};
+ghost use Rattle.sql_tables.specs.Order.{AreInOrder};
+ghost use Rattle.sql_tables.specs.Audits.{of_register, Audits, AuditsForCause};
+ghost use Rattle.sql_tables.specs.ByNumber.{HasNoOther};
+ghost use Rattle.desk_file.specs.Reading.{HoldsFormed, IsRead, TakesRow};
+ghost use Rattle.desk_file.specs.Taking.{BlamesTaking};
+
+use crate::audit::progress::Progress;
+use crate::audit::taking::take;
+use desk_register::{Register, Stage};
+use sql_entries::{Found, found_at, has_no_other};
+use sql_tables::compared::MOST;
+use sql_tables::fault::AuditFault;
+use sqlite::{Alter, Connection, Error};
+use std::alloc::Global;
+
+/// What was read of the table `register`.
+#[derive(Clone, Copy)]
+pub enum Reading {
+    /// Each row is that of an entry that was accepted in its turn, with the reply that it got.
+    Whole,
+    /// The row of this number is not that of an entry that is accepted behind those before it with that reply; or it lacks, and
+    /// there are rows of other numbers.
+    Stops(u64),
+}
+
+/// What the row of a number came to.
+#[derive(Clone, Copy)]
+pub enum Step {
+    /// Its entry is taken in.
+    Taken,
+    /// It is not that of an accepted entry with its reply.
+    Another,
+    /// There is none.
+    Nothing,
+}
+
+/// Reads the row of a number, and takes its entry into a register.
+fn read_entry<S: Alter, R: Register>(
+    alloc: Global,
+    conn: &mut Connection<S>,
+    register: &mut R,
+    number: u64,
+) -> Result<Step, AuditFault>
+    requires number { number < 2 ^ 63 }
+    requires stage { (R.view register.old).stage ≡ Stage.Idle }
+    requires holds { IfTrusted (R.view register.old) (R.view register.old) (HoldsFormed (R.view register.old).room (R.view register.old).content) }
+    ensures takes { Soundly S.Store conn.old conn.new (IfTrusted (R.view register.old) (R.view register.new) (AllByRecursion (HasForm register_table) ((tables S.Store conn.old).trees 6)
+        → HoldsKept (R.view register.old).room (R.view register.old).content.register (R.view register.old).content
+        → IfOk result (λ step. step ≡ Step.Taken → TakesRow ((tables S.Store conn.old).trees 6) number (R.view register.old).room (R.view register.old).content (R.view register.new).content))) }
+    ensures holds { IfTrusted (R.view register.old) (R.view register.new) (IfOk result (λ step. step ≡ Step.Taken → HoldsFormed (R.view register.old).room (R.view register.new).content)) }
+    ensures same { IfTrusted (R.view register.old) (R.view register.new) (IfOk result (λ step. step ≡ Step.Nothing → (R.view register.new).content ≡ (R.view register.old).content)) }
+    ensures look { Audits S.Store conn.old conn.new result }
+    ensures done { OnOk result (IsDone (R.view register.old) (R.view register.new)) }
+    ensures later { IsLater (R.view register.old) (R.view register.new) }
+    ensures cause { Soundly S.Store conn.old conn.new (AuditsForCause S.Store conn.old conn.new result) }
+    ensures blame { R.in_memory ≡ true → BlamesTaking (of_register result) (R.view register.old) (R.view register.new) }
+{
+    match found_at(alloc, conn, number)? {
+        Found::Nothing => Ok(Step::Nothing),
+        Found::Another => Ok(Step::Another),
+        Found::Entry(kept) => {
+            if take(alloc, register, &kept)? {
+                Ok(Step::Taken)
+            } else {
+                Ok(Step::Another)
+            }
+        }
+    }
+}
+
+/// What the table comes to behind so many entries: whether there is no other row.
+fn read_end<S: Alter>(conn: &mut Connection<S>, count: u64) -> Result<Reading, Error>
+    requires { count < 2 ^ 63 }
+    ensures none { Soundly S.Store conn.old conn.new (IfOk result (λ reading. reading ≡ Reading.Whole → HasNoOther ((tables S.Store conn.old).trees 6) count)) }
+    ensures look { Looks S.Store conn.old conn.new result }
+    ensures cause { Soundly S.Store conn.old conn.new (FailsForCause S.Store conn.old conn.new result) }
+{
+    if has_no_other(conn, count)? {
+        Ok(Reading::Whole)
+    } else {
+        Ok(Reading::Stops(count + 1))
+    }
+}
+
+/// Reads the table `register` from its first entry to its last and takes each into a register that holds nothing. Where it is
+/// whole, it is exactly the list that the register holds then. Else, and after a fault, the register should be given up: it
+/// holds the entries so far, and the last one that was read with the reply that it gets.
+pub fn read_register<S: Alter, R: Register, P: Progress>(
+    alloc: Global,
+    conn: &mut Connection<S>,
+    register: &mut R,
+    progress: &mut P,
+) -> Result<Reading, AuditFault>
+    requires stage { (R.view register.old).stage ≡ Stage.Idle }
+    requires empty { IfTrusted (R.view register.old) (R.view register.old) (HoldsKept (R.view register.old).room [] (R.view register.old).content) }
+    ensures entries { Soundly S.Store conn.old conn.new (IfTrusted (R.view register.old) (R.view register.new) (AreInOrder desk_schema (tables S.Store conn.old).trees → AreAllFormed (tables S.Store conn.old).trees
+        → IfOk result (λ reading. reading ≡ Reading.Whole → IsRead (tables S.Store conn.old) (R.view register.old).room (R.view register.new).content))) }
+    ensures holds { IfTrusted (R.view register.old) (R.view register.new) (IfOk result (λ reading. reading ≡ Reading.Whole → HoldsFormed (R.view register.old).room (R.view register.new).content)) }
+    ensures look { Audits S.Store conn.old conn.new result }
+    ensures done { OnOk result (IsDone (R.view register.old) (R.view register.new)) }
+    ensures later { IsLater (R.view register.old) (R.view register.new) }
+    ensures cause { Soundly S.Store conn.old conn.new (AuditsForCause S.Store conn.old conn.new result) }
+    ensures blame { R.in_memory ≡ true → BlamesTaking (of_register result) (R.view register.old) (R.view register.new) }
+{
+    for before in 0..MOST {
+        match read_entry(alloc, conn, register, before + 1)? {
+            Step::Taken => progress.taken(before + 1),
+            Step::Another => return Ok(Reading::Stops(before + 1)),
+            Step::Nothing => {
+                let end = read_end(conn, before)?;
+                return Ok(end);
+            }
+        }
+    }
+    let end = read_end(conn, MOST)?;
+    Ok(end)
+}

@@ -1,0 +1,5 @@
+//! Whether the schema of a database is the desk's.
+mod checks;
+mod columns;
+pub mod ours;
+mod tables;

@@ -1,0 +1,59 @@
+//! The same way in, for the tables alone.
+ghost use Rattle.std.specs.Prelude.{◌≤◌, IfErr, IfOk, IsTrue};
+ghost use Rattle.sqlite.specs.Files.{over_files};
+ghost use Rattle.sqlite.specs.Held.{state};
+ghost use Rattle.sqlite_trees.specs.View.{IsClean};
+ghost use Rattle.sqlite_wal.specs.Files.{image_at};
+ghost use Rattle.desk_rules.specs.declared.limits.TheConstants.{MOST_ENTRIES};
+ghost use Rattle.desk_file.specs.Alone.{AreFoundIn, AreFoundOf, AreOpened, IsAlone};
+ghost use Rattle.desk_file.specs.Opened.{IsHandedBack};
+
+use crate::audit::progress::Silent;
+use crate::fault::OpenFault;
+use crate::mirror::mirrored_register::MirroredRegister;
+use crate::opening::{adopt, open_file};
+use memory_register::ListRegister;
+use sql_register::SqlRegister;
+use sqlite::{Alter, Connection, FileFrom, FileStore, Start};
+use std::alloc::Global;
+use std::rt::HostRuntime;
+
+/// The tables of what was opened, without the register in memory beside them; a fault stays.
+fn alone<S: Alter + Drop, E>(
+    opened: Result<MirroredRegister<ListRegister, SqlRegister<S>>, E>,
+) -> Result<SqlRegister<S>, E>
+    ensures { IsAlone opened result }
+{
+    match opened {
+        Ok(both) => Ok(both.into_parts().1),
+        Err(fault) => Err(fault),
+    }
+}
+
+/// As `adopt`; the register in memory is given up, once the tables were compared with it.
+pub fn adopt_tables<S: Alter + Drop>(
+    alloc: Global,
+    conn: Connection<S>,
+    limit: u64,
+) -> Result<SqlRegister<S>, (OpenFault, S)>
+    requires { limit ≤ MOST_ENTRIES }
+    ensures opened { IfOk result (AreOpened S.Store limit) }
+    ensures which { IfOk result (AreFoundOf S.Store (state S.Store conn).committed) }
+    ensures back { IfErr result (λ e. IsClean (S.Store.view e.1) → IsTrue (S.Store.view e.1).is_open → IsHandedBack (S.Store.view e.1) (state S.Store conn)) }
+{
+    alone(adopt(alloc, conn, limit))
+}
+
+/// As `open_file`; the register in memory is given up, once the tables were compared with it.
+pub fn open_tables<S: Start>(
+    rt: &HostRuntime,
+    path: &str,
+    start: S,
+    limit: u64,
+) -> Result<SqlRegister<FileStore<FileFrom<S>>>, OpenFault>
+    requires { limit ≤ MOST_ENTRIES }
+    ensures opened { IfOk result (AreOpened over_files limit) }
+    ensures which { IfOk result (AreFoundIn over_files (image_at S.Start)) }
+{
+    alone(open_file(rt, path, start, limit, &mut Silent))
+}

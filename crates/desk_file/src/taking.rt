@@ -1,0 +1,116 @@
+//! A database that was opened is made the desk's, or found to be.
+ghost use Rattle.std.specs.Prelude.{◌≡◌, ◌⊎◌, ◌≤◌, false, IfErr, IfOk, IsTrue, None};
+ghost use Rattle.sqlite.specs.Held.{state};
+ghost use Rattle.sqlite.specs.State.{HasCleanDisk};
+ghost use Rattle.memory_register.specs.ListsView.{view_of_lists};
+ghost use Rattle.desk_rules.specs.declared.limits.TheConstants.{MOST_ENTRIES};
+ghost use Rattle.sql_tables.specs.Calls.{Soundly, tables};
+ghost use Rattle.sql_tables.specs.Ends.{IsLater};
+ghost use Rattle.sql_tables.specs.Making.{KeepsCommitted};
+ghost use Rattle.sql_tables.specs.Schema.{desk_schema, no_schema};
+ghost use Rattle.desk_file.specs.Faults.{IsBlamed};
+ghost use Rattle.desk_file.specs.Opened.{Finds, IsOpened, StandsOpen};
+ghost use Rattle.desk_file.specs.Spared.{Spares};
+
+use crate::audit::auditing::{Audited, audit};
+use crate::audit::progress::Progress;
+use crate::fault::{Difference, OpenFault, fault_of, fault_of_audit};
+use crate::mirror::mirrored_register::MirroredRegister;
+use crate::version::says_other_version;
+use memory_register::ListRegister;
+use sql_register::{SqlRegister, has_no_table};
+use sqlite::{Alter, Connection};
+use std::alloc::Global;
+
+/// Why a database that is not the desk's, in this version, is refused.
+fn refusal<S: Alter>(conn: &mut Connection<S>) -> OpenFault
+    ensures spares { Spares (state S.Store conn.old) (state S.Store conn.new) }
+    ensures blame { Soundly S.Store conn.old conn.new ((state S.Store conn.old).in_transaction ≡ false → (state S.Store conn.old).step_limit ≡ None → IsBlamed (state S.Store conn.old) (state S.Store conn.new) result) }
+{
+    match says_other_version(conn) {
+        Ok(true) => OpenFault::OtherVersion,
+        Ok(false) => OpenFault::NotOurFile(Difference::OtherTables),
+        Err(error) => fault_of(&error),
+    }
+}
+
+/// Makes the tables in a database that has none, with a register in memory beside them.
+fn make<S: Alter + Drop>(
+    alloc: Global,
+    conn: Connection<S>,
+    limit: u64,
+) -> Result<MirroredRegister<ListRegister, SqlRegister<S>>, (OpenFault, Connection<S>)>
+    requires limit { limit ≤ MOST_ENTRIES }
+    requires unlimited { (state S.Store conn).step_limit ≡ None }
+    requires open { HasCleanDisk (state S.Store conn) → StandsOpen (state S.Store conn) }
+    requires empty { (tables S.Store conn).schema ≡ no_schema }
+    ensures opened { IfOk result (IsOpened S.Store limit) }
+    ensures which { IfOk result (λ both. HasCleanDisk (state S.Store both.tables.connection) → Finds (state S.Store conn).committed (state S.Store both.tables.connection).committed (view_of_lists both.memory).content) }
+    ensures later { IfOk result (λ both. IsLater (state S.Store conn) (state S.Store both.tables.connection)) }
+    ensures handed { IfErr result (λ e. IsLater (state S.Store conn) (state S.Store e.1)) }
+    ensures kept { IfErr result (λ e. HasCleanDisk (state S.Store e.1) → KeepsCommitted (state S.Store conn) (state S.Store e.1)) }
+    ensures blame { IfErr result (λ e. HasCleanDisk (state S.Store e.1) → IsBlamed (state S.Store conn) (state S.Store e.1) e.0) }
+{
+    match SqlRegister::new(conn, limit) {
+        Ok(tables) => Ok(MirroredRegister::new(ListRegister::new(alloc, limit), tables)),
+        Err((error, conn)) => Err((fault_of(&error), conn)),
+    }
+}
+
+/// Fills a register in memory from a database that has tables, and sees whether these are the ones of what it holds then.
+fn find<S: Alter + Drop, P: Progress>(
+    alloc: Global,
+    mut conn: Connection<S>,
+    limit: u64,
+    progress: &mut P,
+) -> Result<MirroredRegister<ListRegister, SqlRegister<S>>, (OpenFault, Connection<S>)>
+    requires limit { limit ≤ MOST_ENTRIES }
+    requires unlimited { (state S.Store conn).step_limit ≡ None }
+    requires open { HasCleanDisk (state S.Store conn) → StandsOpen (state S.Store conn) }
+    ensures opened { IfOk result (IsOpened S.Store limit) }
+    ensures which { IfOk result (λ both. HasCleanDisk (state S.Store both.tables.connection) → Finds (state S.Store conn).committed (state S.Store both.tables.connection).committed (view_of_lists both.memory).content) }
+    ensures later { IfOk result (λ both. IsLater (state S.Store conn) (state S.Store both.tables.connection)) }
+    ensures handed { IfErr result (λ e. IsLater (state S.Store conn) (state S.Store e.1)) }
+    ensures kept { IfErr result (λ e. HasCleanDisk (state S.Store e.1) → KeepsCommitted (state S.Store conn) (state S.Store e.1)) }
+    ensures blame { IfErr result (λ e. HasCleanDisk (state S.Store e.1) → (tables S.Store conn).schema ≡ desk_schema → IsBlamed (state S.Store conn) (state S.Store e.1) e.0) }
+{
+    let mut memory = ListRegister::new(alloc, limit);
+    match audit(alloc, &mut conn, &mut memory, progress) {
+        Ok(Audited::Whole) => Ok(MirroredRegister::new(memory, SqlRegister::over(conn, limit))),
+        Ok(Audited::OtherTables | Audited::OtherVersion) => {
+            let fault = refusal(&mut conn);
+            Err((fault, conn))
+        }
+        Ok(Audited::OtherEntry(number)) => {
+            Err((OpenFault::NotOurFile(Difference::Entry(number)), conn))
+        }
+        Ok(Audited::Differs(table)) => {
+            Err((OpenFault::NotOurFile(Difference::Table(table)), conn))
+        }
+        Err(fault) => Err((fault_of_audit(&fault), conn)),
+    }
+}
+
+/// Takes a database over that was just opened, so that no limit is set on the steps of a query. One with no table gets the desk's.
+pub fn take_over<S: Alter + Drop, P: Progress>(
+    alloc: Global,
+    conn: Connection<S>,
+    limit: u64,
+    progress: &mut P,
+) -> Result<MirroredRegister<ListRegister, SqlRegister<S>>, (OpenFault, Connection<S>)>
+    requires limit { limit ≤ MOST_ENTRIES }
+    requires unlimited { (state S.Store conn).step_limit ≡ None }
+    requires open { HasCleanDisk (state S.Store conn) → StandsOpen (state S.Store conn) }
+    ensures opened { IfOk result (IsOpened S.Store limit) }
+    ensures which { IfOk result (λ both. HasCleanDisk (state S.Store both.tables.connection) → Finds (state S.Store conn).committed (state S.Store both.tables.connection).committed (view_of_lists both.memory).content) }
+    ensures later { IfOk result (λ both. IsLater (state S.Store conn) (state S.Store both.tables.connection)) }
+    ensures handed { IfErr result (λ e. IsLater (state S.Store conn) (state S.Store e.1)) }
+    ensures kept { IfErr result (λ e. HasCleanDisk (state S.Store e.1) → KeepsCommitted (state S.Store conn) (state S.Store e.1)) }
+    ensures blame { IfErr result (λ e. HasCleanDisk (state S.Store e.1) → ((tables S.Store conn).schema ≡ no_schema) ⊎ ((tables S.Store conn).schema ≡ desk_schema) → IsBlamed (state S.Store conn) (state S.Store e.1) e.0) }
+{
+    if has_no_table(&conn) {
+        make(alloc, conn, limit)
+    } else {
+        find(alloc, conn, limit, progress)
+    }
+}

@@ -1,0 +1,93 @@
+//! Whether a database that is not the desk's tells the version of another.
+ghost use Rattle.std.specs.Prelude.{◌≡◌, false, Err, IfErr, IsTrue, OnOk};
+ghost use Rattle.sqlite.specs.Held.{state};
+ghost use Rattle.sqlite.specs.State.{HasCleanDisk};
+ghost use Rattle.sql_tables.specs.Calls.{FailsForCause, Soundly};
+ghost use Rattle.sql_tables.specs.Control.{Begins};
+ghost use Rattle.desk_file.specs.Spared.{Spares};
+
+use sql_tables::version::VERSION;
+use sqlite::types::ValueRef;
+use sqlite::{Alter, Connection, Error, ErrorCode, Row};
+use sqlite_schema::names::same_name;
+
+/// Begins a transaction, whatever tables there are: what is read of tables that nobody knows is given up afterwards.
+fn begin<S: Alter>(conn: &mut Connection<S>) -> Result<usize, Error>
+    ensures inside { HasCleanDisk (state S.Store conn.new) → OnOk result (IsTrue (state S.Store conn.new).in_transaction) }
+    ensures spares { Spares (state S.Store conn.old) (state S.Store conn.new) }
+    ensures same { HasCleanDisk (state S.Store conn.new) → OnOk result (Begins (state S.Store conn.old) (state S.Store conn.new)) }
+    ensures blame { HasCleanDisk (state S.Store conn.new) → IsTrue (state S.Store conn.old).is_open → (state S.Store conn.old).in_transaction ≡ false → FailsForCause S.Store conn.old conn.new result }
+{
+    conn.execute("BEGIN", &[])
+}
+
+/// The versions that a table `version` says, two of them at most.
+fn versions<S: Alter>(conn: &mut Connection<S>) -> Result<Vec<Row>, Error>
+    ensures spares { (HasCleanDisk (state S.Store conn.old) → IsTrue (state S.Store conn.old).in_transaction) → Spares (state S.Store conn.old) (state S.Store conn.new) }
+    ensures blame { Soundly S.Store conn.old conn.new (FailsForCause S.Store conn.old conn.new result) }
+{
+    conn.query_all("SELECT number FROM version LIMIT 2", &[])
+}
+
+/// Whether a database has a table of that name, in which the library can read: a view is none.
+fn has_versions<S: Alter>(conn: &Connection<S>) -> bool {
+    conn.schema().tables.as_slice().iter().any(|table| same_name(
+        table.name.as_slice(),
+        "version".as_bytes(),
+    ))
+}
+
+/// Whether an error is one of memory or of the device. Any other is one of what was asked.
+fn is_failure(error: &Error) -> bool {
+    match error {
+        Error::SqliteFailure(
+            ErrorCode::OutOfMemory
+            | ErrorCode::TooBig
+            | ErrorCode::SystemIoFailure
+            | ErrorCode::DatabaseCorrupt
+            | ErrorCode::DiskFull
+            | ErrorCode::Closed,
+        ) => true,
+        _ => false,
+    }
+}
+
+/// Whether rows are the one of another version.
+fn are_other(rows: &[Row]) -> bool {
+    match rows {
+        [row] => match row.get_ref(0) {
+            Ok(ValueRef::Int(number)) => number != VERSION as i64,
+            _ => false,
+        },
+        _ => false,
+    }
+}
+
+/// What shown versions come to, or why none is shown.
+fn told(shown: Result<Vec<Row>, Error>) -> Result<bool, Error>
+    ensures { IfErr result (λ e. shown ≡ Err e) }
+{
+    match shown {
+        Ok(rows) => Ok(are_other(&rows)),
+        Err(error) => {
+            if is_failure(&error) {
+                Err(error)
+            } else {
+                Ok(false)
+            }
+        }
+    }
+}
+
+/// Whether a database has a table `version` with one row, which says another version. Nothing is committed; a transaction may
+/// be left open. One that has no such table says none.
+pub fn says_other_version<S: Alter>(conn: &mut Connection<S>) -> Result<bool, Error>
+    ensures spares { Spares (state S.Store conn.old) (state S.Store conn.new) }
+    ensures blame { Soundly S.Store conn.old conn.new ((state S.Store conn.old).in_transaction ≡ false → FailsForCause S.Store conn.old conn.new result) }
+{
+    if !has_versions(conn) {
+        return Ok(false);
+    }
+    begin(conn)?;
+    told(versions(conn))
+}

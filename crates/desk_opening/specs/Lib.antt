@@ -1,5 +1,0 @@
-pub mod Alone
-pub mod Faults
-pub mod Opened
-pub mod Said
-pub mod Spared

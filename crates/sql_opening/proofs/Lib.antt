@@ -1,3 +1,0 @@
-mod CheckLemmas
-mod FormLemmas
-pub mod OrderLemmas

@@ -1,8 +1,0 @@
-use Rattle.std.proofs.Common.{sym, ◌∙◌}
-use Rattle.sqlite.specs.Held.{state}
-use Rattle.sql_opening.proofs.FormLemmas.{formed_in}
-use Rattle.sql_opening.proofs.ours.has_desk_tables.Goals as goal
-
-pub returns-clause-formed : goal.returns-clause-formed
-returns-clause-formed g c told is_open order =
-    formed_in (state g.S.Store c.args.conn.now) c.schema.ensures.live (sym c.schema.ensures.value ∙ c.is_desk.ensures.0 told) is_open order
