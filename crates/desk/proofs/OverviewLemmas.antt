@@ -22,8 +22,8 @@ use Rattle.desk_book.specs.Held.{Holds}
 use Rattle.desk_engine.specs.Ready.{IsReady, KeepsFormed}
 use Rattle.desk_book.specs.Played.{PlaysScript, asked_in}
 use Rattle.desk_book.specs.RowByRow.{WritesText}
-use Rattle.report_rows.specs.declared.format.Format.{Format}
-use Rattle.report_rows.specs.declared.format.Format.TheVariants.{Text, Json}
+use Rattle.desk_report.specs.declared.format.Format.{Format}
+use Rattle.desk_report.specs.declared.format.Format.TheVariants.{Text, Json}
 use Rattle.desk.specs.OverviewAnswer.{IsAfterScript, IsOpenOverviewAnswer, IsOverviewAnswer, IsOverviewEnd, IsOverviewFrom, IsShownText, MayPlayNone, failure_of_played, told_after, told_from, told_front, told_no_script, told_report, told_unclosed}
 use Rattle.desk.specs.declared.answers.report.Shown.{Shown}
 use Rattle.desk.specs.Status.{EndsBy, IsFailureTold, failure_line}

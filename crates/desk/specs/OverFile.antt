@@ -4,7 +4,7 @@ use Rattle.sqlite_disk.specs.declared.Disk.{Ghosts}
 use Rattle.sqlite_disk.specs.declared.Files.{Files}
 use Rattle.desk_rules.specs.Books.{Books}
 use Rattle.desk_rules.specs.declared.limits.TheConstants.{MOST_ENTRIES}
-use Rattle.report_rows.specs.declared.format.Format.{Format}
+use Rattle.desk_report.specs.declared.format.Format.{Format}
 use Rattle.desk.specs.DropAnswer.{IsDropAnswer, IsFolderEnd, IsOpenDropAnswer}
 use Rattle.desk.specs.Left.{AreLeft, FilesSay, LeavesSome}
 use Rattle.desk.specs.OverviewAnswer.{IsFileOverviewAnswer, IsOpenOverviewAnswer, IsOverviewFrom}

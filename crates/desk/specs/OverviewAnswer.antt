@@ -18,8 +18,8 @@ use Rattle.desk_book.specs.Answered.{AnsweredInTurn}
 use Rattle.desk_engine.specs.Ready.{IsReady, KeepsFormed}
 use Rattle.desk_book.specs.Played.{asked_in}
 use Rattle.desk_book.specs.Script.{Item, Script}
-use Rattle.report_rows.specs.declared.format.Format.{Format}
-use Rattle.report_rows.specs.declared.format.Format.TheVariants.{Text, Json}
+use Rattle.desk_report.specs.declared.format.Format.{Format}
+use Rattle.desk_report.specs.declared.format.Format.TheVariants.{Text, Json}
 use Rattle.desk_journal.specs.Journal.{IsJournalText}
 use Rattle.desk_report.specs.Report.{IsReportText}
 use Rattle.desk.specs.Input.{Came, MayGiveNone, failure_of}

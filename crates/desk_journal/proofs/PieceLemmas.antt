@@ -14,7 +14,7 @@ use Rattle.desk_register.specs.declared.fault.WalkFault.TheVariants as walks
 use Rattle.desk_book.specs.RowByRow.{WritesSome, WritesText, WritesWhole}
 use Rattle.desk_book.specs.Sums.{rows_text}
 use Rattle.desk_book.proofs.RowLemmas.{appended, appends_nothing, closed_by}
-use Rattle.report_rows.proofs.NumberedLemmas.{handed_on}
+use Rattle.desk_report.proofs.NumberedLemmas.{handed_on}
 use Rattle.desk_journal.specs.Journal.{IsJournalText, data_of, journal_of}
 use Rattle.desk_journal.specs.Writing.{AreRowsText}
 

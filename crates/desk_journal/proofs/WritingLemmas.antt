@@ -23,8 +23,8 @@ use Rattle.desk_register.proofs.ReadLemmas.{kept_so, read_none}
 use Rattle.desk_register.proofs.ReadingLemmas.{read_on}
 use Rattle.desk_book.specs.RowByRow.{WritesSome, WritesText, WritesWhole}
 use Rattle.desk_book.specs.Sums.{rows_text}
-use Rattle.report_rows.specs.RowWritten.{WritesRow}
-use Rattle.report_rows.proofs.NumberedLemmas.{RowsWritten, handed_on, none_written, one_written, rows_front, rows_whole}
+use Rattle.desk_report.specs.RowWritten.{WritesRow}
+use Rattle.desk_report.proofs.NumberedLemmas.{RowsWritten, handed_on, none_written, one_written, rows_front, rows_whole}
 use Rattle.journal_rows.specs.JournalData.{journal_data}
 use Rattle.journal_rows.specs.declared.journal.JournalRow.{JournalRow}
 use Rattle.journal_rows.specs.declared.journal.MessageKey.{MessageKey}

@@ -20,9 +20,9 @@ use crate::sending::{Sending, note_all_settled, note_entries};
 use desk_book::write_text;
 use desk_msg::SinkFault;
 use desk_register::{Register, Stage, WalkFault};
+use desk_report::Format;
 use desk_streams::Sink;
 use journal_rows::{JournalRow, MessageKey, write_journal_row};
-use report_rows::Format;
 use std::alloc::Global;
 use std::collections::BTreeMap;
 

@@ -6,7 +6,7 @@ use Rattle.serde_json.specs.Written.{comma_if, compact_text, members_text}
 use Rattle.desk_rules.specs.Books.{Books}
 use Rattle.desk_rules.specs.Content.{Content}
 use Rattle.desk_report.specs.Report.{AreMembers, IsPartOf, name_of_part}
-use Rattle.desk_report.specs.Written.{front_of, label_of}
+use Rattle.desk_report.specs.ReportWritten.{front_of, label_of}
 use Rattle.desk_report.specs.declared.part.Part.{Part}
 use Rattle.desk_report.specs.declared.part.Part.TheVariants.{Accounts, Cash, Pending, Sums, Unmatched}
 use Rattle.serde_json.proofs.OnLiterals.{serde_json_on_literals}

@@ -14,7 +14,7 @@ use Rattle.desk_register.specs.View.{HasRead, IfTrusted, IsLater, View, IsRead}
 use Rattle.desk_register.proofs.ReadingLemmas.{read_on}
 use Rattle.desk_register.proofs.ReadLemmas.{read_none}
 use Rattle.desk_book.proofs.TellingLemmas.{known_of}
-use Rattle.report_rows.proofs.NumberedLemmas.{handed_on}
+use Rattle.desk_report.proofs.NumberedLemmas.{handed_on}
 use Rattle.desk_engine.specs.Applied.{Keeps}
 use Rattle.desk_engine.specs.Ready.{IsReady}
 use Rattle.desk_book.specs.RowByRow.{WritesSome, WritesText, WritesWhole}
@@ -23,16 +23,16 @@ use Rattle.desk_book.proofs.AnsweringLemmas.{sums_told}
 use Rattle.desk_book.proofs.CashLemmas.{cash_goes_on, cash_none}
 use Rattle.desk_book.proofs.ListedLemmas.{totals_exist}
 use Rattle.desk_book.proofs.RowLemmas.{appended, appends_nothing, closed_by}
-use Rattle.report_rows.specs.RowData.{account_data, cash_data, pending_data, unmatched_data}
-use Rattle.report_pending.specs.Pending.{IsPendingText}
-use Rattle.report_pending.proofs.WalkLemmas.{nothing_listed, tells_pairs}
-use Rattle.report_unmatched.specs.Unmatched.{IsUnmatchedText, unmatched_of}
-use Rattle.report_accounts.specs.Accounts.{IsAccountsText}
-use Rattle.report_accounts.specs.Cash.{IsCashText, cash_of}
-use Rattle.report_accounts.proofs.AccountLemmas.{accounts_exist, hold_registered}
+use Rattle.desk_report.specs.RowData.{account_data, cash_data, pending_data, unmatched_data}
+use Rattle.desk_report.specs.Pending.{IsPendingText}
+use Rattle.desk_report.proofs.PendingWalkLemmas.{nothing_listed, tells_pairs}
+use Rattle.desk_report.specs.Unmatched.{IsUnmatchedText, unmatched_of}
+use Rattle.desk_report.specs.Accounts.{IsAccountsText}
+use Rattle.desk_report.specs.Cash.{IsCashText, cash_of}
+use Rattle.desk_report.proofs.AccountLemmas.{accounts_exist, hold_registered}
 use Rattle.desk_report.specs.Report.{AreMembers, IsPartOf, IsReportText, all_parts, is_asked, name_of_part}
 use Rattle.desk_report.specs.declared.part.Parts.{Parts}
-use Rattle.desk_report.specs.Written.{AreMembersText, AreRowsOf, IsMemberText, IsPartText, front_of, label_of}
+use Rattle.desk_report.specs.ReportWritten.{AreMembersText, AreRowsOf, IsMemberText, IsPartText, front_of, label_of}
 use Rattle.desk_report.specs.declared.part.Part.{Part}
 use Rattle.desk_report.specs.declared.part.Part.TheVariants.{Accounts, Cash, Pending, Sums, Unmatched}
 use Rattle.desk_report.proofs.MemberLemmas.{Begun, begun_more, begun_nothing, closed_members}

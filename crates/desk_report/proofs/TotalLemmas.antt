@@ -17,8 +17,8 @@ use Rattle.desk_book.specs.RowByRow.{WritesSome, WritesText, WritesWhole, told_o
 use Rattle.desk_book.specs.Sums.{sums_data}
 use Rattle.desk_book.specs.WrittenTo.{Writes, reply_with}
 use Rattle.desk_book.specs.declared.answers.head.Head.{Head}
-use Rattle.report_rows.proofs.NumberedLemmas.{handed_on}
-use Rattle.desk_report.specs.Written.{IsPartText}
+use Rattle.desk_report.proofs.NumberedLemmas.{handed_on}
+use Rattle.desk_report.specs.ReportWritten.{IsPartText}
 use Rattle.desk_report.specs.declared.part.Part.TheVariants.{Sums}
 use Rattle.desk_report.proofs.PartLemmas.{part_exists}
 

@@ -1,2 +1,13 @@
+pub mod RowData
+pub mod RowWritten
+pub mod Pending
+pub mod PendingReading
+pub mod FirstNumbers
+pub mod NearKeys
+pub mod Unmatched
+pub mod UnmatchedWriting
+pub mod Accounts
+pub mod Cash
+pub mod RowsWriting
 pub mod Report
-pub mod Written
+pub mod ReportWritten

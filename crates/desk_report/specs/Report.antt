@@ -9,13 +9,13 @@ use Rattle.desk_book.specs.declared.answers.total.CashTotal.{CashTotal}
 use Rattle.desk_book.specs.declared.answers.total.SecurityTotal.{SecurityTotal}
 use Rattle.desk_book.specs.Sums.{sums_data}
 use Rattle.desk_book.specs.Totals.{AreCashSums, AreSums}
-use Rattle.report_rows.specs.RowData.{account_data, cash_data, pending_data, unmatched_data}
-use Rattle.report_rows.specs.declared.balances.AccountRow.{AccountRow}
-use Rattle.report_rows.specs.declared.pending.PendingPair.{PendingPair}
-use Rattle.report_pending.specs.Pending.{ArePending}
-use Rattle.report_unmatched.specs.Unmatched.{unmatched_of}
-use Rattle.report_accounts.specs.Accounts.{AreAccounts}
-use Rattle.report_accounts.specs.Cash.{cash_of}
+use Rattle.desk_report.specs.RowData.{account_data, cash_data, pending_data, unmatched_data}
+use Rattle.desk_report.specs.declared.rows.balances.AccountRow.{AccountRow}
+use Rattle.desk_report.specs.declared.rows.pending.PendingPair.{PendingPair}
+use Rattle.desk_report.specs.Pending.{ArePending}
+use Rattle.desk_report.specs.Unmatched.{unmatched_of}
+use Rattle.desk_report.specs.Accounts.{AreAccounts}
+use Rattle.desk_report.specs.Cash.{cash_of}
 use Rattle.desk_report.specs.declared.part.Part.{Part}
 use Rattle.desk_report.specs.declared.part.Part.TheVariants.{Accounts, Cash, Pending, Sums, Unmatched}
 use Rattle.desk_report.specs.declared.part.Parts.{Parts}

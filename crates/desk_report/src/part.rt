@@ -1,7 +1,7 @@
 //! The parts of a report.
 ghost use Rattle.std.specs.Prelude.{◌≡◌};
 ghost use Rattle.desk_report.specs.Report.{is_asked, name_of_part};
-ghost use Rattle.desk_report.specs.Written.{label_of};
+ghost use Rattle.desk_report.specs.ReportWritten.{label_of};
 
 /// A part of a report.
 #[derive(Clone, Copy)]

@@ -9,18 +9,19 @@ ghost use Rattle.desk_register.specs.Ends.{at_register};
 ghost use Rattle.desk_engine.specs.Ready.{IsReady};
 ghost use Rattle.desk_book.specs.RowByRow.{WritesText};
 ghost use Rattle.desk_report.specs.Report.{IsReportText};
-ghost use Rattle.desk_report.specs.Written.{AreMembersText, AreRowsOf, IsMemberText, IsPartText, label_of};
+ghost use Rattle.desk_report.specs.ReportWritten.{AreMembersText, AreRowsOf, IsMemberText, IsPartText, label_of};
 
+use crate::accounts::write_accounts;
+use crate::cash::write_cash;
+use crate::format::Format;
 use crate::part::{Part, Parts};
+use crate::pending::walk::write_pending;
 use crate::sums::write_sum_lines;
+use crate::unmatched::walk::write_unmatched;
 use desk_book::{write_row, write_sums, write_text};
 use desk_msg::SinkFault;
 use desk_register::{Register, Stage, WalkFault};
 use desk_streams::Sink;
-use report_accounts::{write_accounts, write_cash};
-use report_pending::write_pending;
-use report_rows::Format;
-use report_unmatched::write_unmatched;
 use std::alloc::Global;
 
 /// The parts in the order of their names, as JSON has them.

@@ -3,12 +3,12 @@ ghost use Rattle.std.specs.Prelude.{◌≡◌, ◌≢◌, true, Err};
 ghost use Rattle.desk_register.specs.View.{IsRead};
 ghost use Rattle.desk_register.specs.Ends.{at_register};
 
+use crate::rows::writing::{write_cash_total, write_security_total};
 use desk_book::{CashTotal, SecurityTotal};
 use desk_codes::{CURRENCIES, Ccy, Isin};
 use desk_msg::SinkFault;
 use desk_register::{Register, Stage, WalkFault};
 use desk_streams::Sink;
-use report_rows::{write_cash_total, write_security_total};
 use std::alloc::Global;
 
 /// Writes a line for each currency that was paid in, and one for each registered security.

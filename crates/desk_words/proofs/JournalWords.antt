@@ -12,8 +12,8 @@ use Rattle.desk_words.proofs.NumberWords.{IsTaken, number_taken}
 use Rattle.desk_words.proofs.ReportWords.{IsPlainFile, built_desk, is_no_flag, one_form, passes_stopped, plain_file, stops, takes_by}
 use Rattle.desk_words.specs.Words.{CallValue, IsFormatOf, IsFrom, IsFromAskable, IsFromSpelledOut, IsNoOptionIn, IsSaid, IsSpelledOut, check, desk_app, explain, folder, holdings, isin, journal, journal_app, play, read, report, serve, sums, words_for, words_of_file, words_of_format}
 use Rattle.desk_words.specs.declared.calls.Topic.TheVariants.{Catalogue, Number}
-use Rattle.report_rows.specs.declared.format.Format.{Format}
-use Rattle.report_rows.specs.declared.format.Format.TheVariants.{Json, Text}
+use Rattle.desk_report.specs.declared.format.Format.{Format}
+use Rattle.desk_report.specs.declared.format.Format.TheVariants.{Json, Text}
 
 -- what the parser knows of `journal`
 journal_shape : Shape

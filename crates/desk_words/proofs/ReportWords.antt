@@ -17,8 +17,8 @@ use Rattle.clap.proofs.WalkLemmas.{list_any-map, raw_values-rows}
 use Rattle.desk_words.proofs.PlainWords.{IsPlain, plain_word}
 use Rattle.desk_words.specs.Words.{ArePartWords, ArePartsOf, IsFormatOf, IsNoOption, IsNoOptionIn, IsSpelledOut, TellsSome, are_all, desk_app, is_part_word, is_told, part_words_in, parts_by, report, report_app, report_words, words_for, words_of_file, words_of_format, words_of_part, words_of_parts}
 use Rattle.desk_report.specs.declared.part.Parts.{Parts}
-use Rattle.report_rows.specs.declared.format.Format.{Format}
-use Rattle.report_rows.specs.declared.format.Format.TheVariants.{Json, Text}
+use Rattle.desk_report.specs.declared.format.Format.{Format}
+use Rattle.desk_report.specs.declared.format.Format.TheVariants.{Json, Text}
 
 -- a part is told as the words that name parts have it
 

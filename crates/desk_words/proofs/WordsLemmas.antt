@@ -30,7 +30,7 @@ use Rattle.desk_words.proofs.PlainWords.{IsPlain, no_dashes, no_long, no_short, 
 use Rattle.desk_words.proofs.ReportWords.{enters_report, enters_several, one_form, takes_report, takes_several}
 use Rattle.desk_words.specs.Words.{ArePartWords, ArePartsOf, CallValue, IsAskable, IsBicText, IsErrorIn, IsFormatOf, IsNoOption, IsNoOptionIn, IsSpelledOut, IsSaid, IsSaidBy, IsSaidIn, IsTypeText, value_of_call, desk_app, IsNumberText, IsTopic, check, explain, holdings, isin, journal, part_words_in, parts_by, play, read, report, report_words, serve, sums, serve_app, words_for, drop_app, folder, holdings_app}
 use Rattle.desk_report.specs.declared.part.Parts.{Parts}
-use Rattle.report_rows.specs.declared.format.Format.{Format}
+use Rattle.desk_report.specs.declared.format.Format.{Format}
 use Rattle.desk_words.specs.declared.calls.Call.{Call}
 use Rattle.desk_words.specs.declared.calls.Topic.{Topic}
 use Rattle.desk_words.specs.declared.calls.Topic.TheVariants.{Catalogue, Number}

@@ -12,8 +12,8 @@ use Rattle.desk_codes.specs.Bic.{IsBic, ReadsBic}
 use Rattle.desk_msg.specs.MessageType.{digits_of_type, is_instruction, number_of_type}
 use Rattle.desk_msg.specs.declared.mt.Mt.{Mt}
 use Rattle.desk_report.specs.declared.part.Parts.{Parts}
-use Rattle.report_rows.specs.declared.format.Format.{Format}
-use Rattle.report_rows.specs.declared.format.Format.TheVariants.{Json, Text}
+use Rattle.desk_report.specs.declared.format.Format.{Format}
+use Rattle.desk_report.specs.declared.format.Format.TheVariants.{Json, Text}
 use Rattle.desk_words.specs.declared.calls.Call.{Call}
 use Rattle.desk_words.specs.declared.calls.Topic.{Topic}
 use Rattle.desk_words.specs.declared.calls.Topic.TheVariants.{Catalogue, Number}

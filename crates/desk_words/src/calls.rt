@@ -13,8 +13,7 @@ use clap::error::{Error, ErrorKind};
 use desk_book::party;
 use desk_codes::Bic;
 use desk_msg::Mt;
-use desk_report::Parts;
-use report_rows::Format;
+use desk_report::{Format, Parts};
 use std::alloc::{AllocError, Global};
 use std::convert::AsStr;
 

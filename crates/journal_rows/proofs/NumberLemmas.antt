@@ -10,7 +10,7 @@ use Rattle.desk_rules.specs.declared.history.entry.Entry.TheVariants.{Participan
 use Rattle.desk_rules.specs.declared.history.entry.Sender.{Sender}
 use Rattle.desk_rules.specs.declared.history.entry.Sender.TheVariants.{Operator, Participant as FromParticipant}
 use Rattle.desk_rules.specs.History.{sender_of}
-use Rattle.report_rows.specs.RowData.{amount_data, ccy_data, number_data, or_null}
+use Rattle.desk_report.specs.RowData.{amount_data, ccy_data, number_data, or_null}
 use Rattle.journal_rows.specs.JournalData.{command_data, instruct_data, journal_data, key_data, outcome_data, sender_data}
 use Rattle.journal_rows.specs.declared.journal.JournalRow.{JournalRow}
 use Rattle.journal_rows.specs.declared.journal.MessageKey.{MessageKey}

@@ -18,7 +18,7 @@ use Rattle.desk_rules.specs.declared.history.entry.Sender.{Sender}
 use Rattle.desk_rules.specs.declared.history.entry.Sender.TheVariants.{Operator, Participant as FromParticipant}
 use Rattle.desk_rules.specs.History.{reference_of, sender_of}
 use Rattle.desk_book.specs.Command.{text_member, number_member}
-use Rattle.report_rows.specs.RowData.{amount_data, ccy_data, number_data, or_null}
+use Rattle.desk_report.specs.RowData.{amount_data, ccy_data, number_data, or_null}
 use Rattle.journal_rows.specs.declared.journal.JournalRow.{JournalRow}
 use Rattle.journal_rows.specs.declared.journal.MessageKey.{MessageKey}
 use Rattle.journal_rows.specs.declared.journal.Outcome.{Outcome}

@@ -3,14 +3,14 @@ ghost use Rattle.std.specs.Prelude.{◌≡◌, map, IfOk, string_bytes};
 ghost use Rattle.serde_json.specs.Data.{array, string};
 ghost use Rattle.serde_json.specs.View.{view, items_of};
 ghost use Rattle.serde_json.specs.Written.{compact_text};
-ghost use Rattle.report_rows.specs.RowData.{or_null};
+ghost use Rattle.desk_report.specs.RowData.{or_null};
 ghost use Rattle.journal_rows.specs.JournalData.{account_data, cancel_data, command_data, instruct_data, journal_data, key_data, movement_data, order_data, outcome_data, participant_data, payment_data, run_data, security_data, sender_data, state_data};
 
 use crate::journal::{JournalRow, MessageKey, Outcome};
 use desk_codes::{AccountId, Bic, Day, Isin};
 use desk_msg::{CancelOrder, Instruction, Kind, Reason};
+use desk_report::{Object, amount_value, ccy_value, optional_number, reason_code};
 use desk_rules::{Entry, Movement, Payment, Sender};
-use report_rows::{Object, amount_value, ccy_value, optional_number, reason_code};
 use serde_json::Value;
 use std::alloc::{AllocError, Global};
 

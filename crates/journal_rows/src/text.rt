@@ -4,8 +4,8 @@ ghost use Rattle.std.specs.Prelude.{◌≤◌};
 use crate::journal::{JournalRow, MessageKey, Outcome};
 use desk_codes::{Day, NumberText};
 use desk_msg::{Cash, Instruction, Reason};
+use desk_report::reason_code;
 use desk_rules::{Entry, Movement, Payment, Sender};
-use report_rows::reason_code;
 use std::alloc::{AllocError, Global};
 
 /// A number as messages spell it.

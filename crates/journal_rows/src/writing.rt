@@ -1,7 +1,7 @@
 //! Rows on their way to a writer.
 ghost use Rattle.std.specs.Prelude.{◌≡◌, true, Ok, Err};
 ghost use Rattle.desk_register.specs.Ends.{at_register};
-ghost use Rattle.report_rows.specs.RowWritten.{WritesRow};
+ghost use Rattle.desk_report.specs.RowWritten.{WritesRow};
 ghost use Rattle.journal_rows.specs.JournalData.{journal_data};
 
 use crate::journal::{JournalRow, MessageKey};
@@ -10,8 +10,8 @@ use crate::text::journal_text;
 use desk_book::{write_row, write_text};
 use desk_msg::SinkFault;
 use desk_register::WalkFault;
+use desk_report::Format;
 use desk_streams::Sink;
-use report_rows::Format;
 use std::alloc::Global;
 
 /// Writes an accepted entry with the messages that were sent because of it: as JSON behind a comma where rows stand before it,

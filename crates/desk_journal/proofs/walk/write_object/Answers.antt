@@ -1,5 +1,5 @@
 use Rattle.std.proofs.Common.{refl}
-use Rattle.report_rows.proofs.NumberedLemmas.{handed_on}
+use Rattle.desk_report.proofs.NumberedLemmas.{handed_on}
 use Rattle.desk_journal.specs.Journal.{IsJournalText}
 use Rattle.desk_journal.proofs.PieceLemmas.{broken, ended}
 use Rattle.desk_journal.proofs.walk.write_object.Goals as goal

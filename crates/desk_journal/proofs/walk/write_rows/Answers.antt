@@ -1,5 +1,5 @@
 use Rattle.std.proofs.Common.{◌≡◌, ◌≤◌, arith}
-use Rattle.report_rows.specs.declared.format.Format.TheVariants.{Json}
+use Rattle.desk_report.specs.declared.format.Format.TheVariants.{Json}
 use Rattle.desk_journal.proofs.WritingLemmas.{writing_begins, writing_breaks, writing_ends, writing_goes_on}
 use Rattle.desk_journal.proofs.walk.write_rows.Goals as goal
 

@@ -1,5 +1,5 @@
 use Rattle.std.specs.Prelude.{◌≡◌}
-use Rattle.report_rows.specs.declared.format.Format.TheVariants.{Json}
+use Rattle.desk_report.specs.declared.format.Format.TheVariants.{Json}
 use Rattle.desk_journal.proofs.WritingLemmas.{Writing}
 use Rattle.desk_journal.proofs.walk.write_rows.Given as goal
 

@@ -1,6 +1,6 @@
 use Rattle.std.proofs.Common.{[], ◌∷◌, refl}
-use Rattle.report_rows.proofs.NumberedLemmas.{handed_on}
-use Rattle.desk_report.specs.Written.{AreRowsOf, IsPartText}
+use Rattle.desk_report.proofs.NumberedLemmas.{handed_on}
+use Rattle.desk_report.specs.ReportWritten.{AreRowsOf, IsPartText}
 use Rattle.desk_report.proofs.PartLemmas.{in_brackets}
 use Rattle.desk_report.proofs.PieceLemmas.{broken, ended}
 use Rattle.desk_report.proofs.report.write_array.Goals as goal

@@ -1,6 +1,6 @@
 use Rattle.std.proofs.Common.{◌++◌}
 use Rattle.serde_json.specs.Written.{comma_if}
-use Rattle.desk_report.specs.Written.{IsMemberText, IsPartText, label_of}
+use Rattle.desk_report.specs.ReportWritten.{IsMemberText, IsPartText, label_of}
 use Rattle.desk_report.proofs.PartLemmas.{named}
 use Rattle.desk_report.proofs.PieceLemmas.{behind}
 use Rattle.desk_report.proofs.report.write_member.Goals as goal

@@ -1,7 +1,7 @@
 use Rattle.std.proofs.Common.{[], ◌∷◌}
-use Rattle.report_rows.proofs.NumberedLemmas.{handed_on}
+use Rattle.desk_report.proofs.NumberedLemmas.{handed_on}
 use Rattle.desk_report.specs.Report.{IsReportText}
-use Rattle.desk_report.specs.Written.{AreMembersText}
+use Rattle.desk_report.specs.ReportWritten.{AreMembersText}
 use Rattle.desk_report.proofs.PartLemmas.{in_braces}
 use Rattle.desk_report.proofs.PieceLemmas.{broken, ended}
 use Rattle.desk_report.proofs.report.write_object.Goals as goal

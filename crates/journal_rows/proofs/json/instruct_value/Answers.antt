@@ -2,8 +2,8 @@ use Rattle.std.proofs.Common.{Ok, ap, codes, ◌∙◌}
 use Rattle.serde_json.specs.Data.{object, string}
 use Rattle.desk_msg.specs.MessageType.{number_of_type}
 use Rattle.desk_msg.specs.Profile.{code_of_kind}
-use Rattle.report_rows.specs.RowData.{amount_data, ccy_data, number_data}
-use Rattle.report_rows.proofs.ObjectLemmas.{member_told, number_told, text_told, value_told}
+use Rattle.desk_report.specs.RowData.{amount_data, ccy_data, number_data}
+use Rattle.desk_report.proofs.ObjectLemmas.{member_told, number_told, text_told, value_told}
 use Rattle.journal_rows.proofs.json.instruct_value.Goals as goal
 
 pub returns : goal.returns

@@ -1,5 +1,0 @@
-use Rattle.report_pending.proofs.OnePending.{list_exists, one_list}
-use Rattle.report_pending.proofs.laws.one_pending.Goals as goal
-
-pub returns : goal.returns
-returns c = record { exists = list_exists; unique = one_list }

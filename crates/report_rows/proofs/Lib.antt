@@ -1,3 +1,0 @@
-mod NameLemmas
-pub mod ObjectLemmas
-pub mod NumberedLemmas

@@ -1,2 +1,0 @@
-pub mod RowData
-pub mod RowWritten

@@ -1,4 +1,0 @@
-pub mod FirstNumbers
-pub mod NearKeys
-pub mod Unmatched
-pub mod Writing
