@@ -1,8 +1,8 @@
 """Runs the workloads of workloads.txt by turns in two built checkouts: compare.py OLD NEW [SEED] [NAME..], those of these names
 (none: all). A workload is a line NAME CRATE WORD..: the proved program of the crate is run with the words in the folder bench
 of its checkout, the word SEED being a number, and a last word <FILE its standard input. Prints the median processor seconds of
-both and their ratio, and stops where what they print differs. A workload that OLD does not have, or has by other words, is told
-as new and not compared; it can be compared with the commit that brought it, and later ones."""
+both and their ratio, and stops where what they print differs. Each is run with its own words. A workload that OLD does not have is
+told as new and not compared; it can be compared with the commit that brought it, and later ones."""
 
 import os
 import statistics
@@ -53,15 +53,16 @@ def main():
     print("| workload | old | new | old over new |")
     print("|---|--:|--:|--:|", flush=True)
     for name in names or workloads:
-        if known.get(name) != workloads[name]:
+        if name not in known:
             print(f"| {name} | new | | |", flush=True)
             continue
-        crate, *words = [seed if word == "SEED" else word for word in workloads[name]]
+        asked = [[seed if word == "SEED" else word for word in of[name]] for of in (known, workloads)]
         times = [[], []]
         printed = None
         for turn in range(TURNS):
             # which of the two begins changes from turn to turn
             for which in ((0, 1), (1, 0))[turn % 2]:
+                crate, *words = asked[which]
                 text, seconds = run(checkouts[which], crate, words)
                 if printed not in (None, text):
                     sys.exit(f"{name}: {checkouts[which]} prints {text!r}, and before it was {printed!r}")

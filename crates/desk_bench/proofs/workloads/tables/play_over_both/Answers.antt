@@ -2,7 +2,7 @@ use Rattle.std.proofs.Common.{◌∙◌, ap, subst, sym}
 use Rattle.desk_engine.specs.Applied.{no_books}
 use Rattle.desk_book.proofs.FormedLemmas.{empty_formed}
 use Rattle.memory_register.specs.ListsView.{view_of_lists}
-use Rattle.desk_workloads.proofs.tables.play_over_both.Goals as goal
+use Rattle.desk_bench.proofs.workloads.tables.play_over_both.Goals as goal
 
 pub play_over-requires : goal.play_over-requires
 play_over-requires g c = record {

@@ -3,12 +3,13 @@ ghost use Rattle.std.specs.Prelude.{◌≡◌};
 ghost use Rattle.desk_register.specs.View.{IfTrusted};
 ghost use Rattle.desk_engine.specs.KeptHistory.{HoldsKept};
 
-use crate::day::{Day, Depository};
-use crate::days::{new_desk, play_day};
-use crate::digest::Digest;
-use crate::draw::Draw;
 use crate::failure::Failure;
-use crate::size::Size;
+use crate::in_memory::new_desk;
+use crate::workloads::day::{Day, Depository};
+use crate::workloads::days::play_day;
+use crate::workloads::digest::Digest;
+use crate::workloads::draw::Draw;
+use crate::workloads::size::Size;
 use desk_engine::replay;
 use desk_register::Register;
 use desk_rules::{Kept, MOST_ENTRIES};

@@ -1,11 +1,11 @@
 //! A day at a depository, as the lines of a script, request by request.
 ghost use Rattle.std.specs.Prelude.{◌<◌};
 
-use crate::codes::isin;
-use crate::draw::Draw;
 use crate::failure::Failure;
-use crate::script::Script;
-use crate::trade::{Party, Side, Trade};
+use crate::workloads::codes::isin;
+use crate::workloads::draw::Draw;
+use crate::workloads::script::Script;
+use crate::workloads::trade::{Party, Side, Trade};
 use std::alloc::Global;
 use std::collections::VecDeque;
 

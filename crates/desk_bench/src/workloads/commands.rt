@@ -1,14 +1,15 @@
 //! Operator's commands of all operations in the spellings that most users write, played as scripts in memory.
 
-use crate::codes::isin;
-use crate::day::BASES;
-use crate::days::{new_desk, play};
-use crate::digest::Digest;
-use crate::draw::Draw;
 use crate::failure::Failure;
-use crate::script::Script;
-use crate::size::Size;
-use crate::trade::{Party, add_all};
+use crate::in_memory::new_desk;
+use crate::workloads::codes::isin;
+use crate::workloads::day::BASES;
+use crate::workloads::days::play;
+use crate::workloads::digest::Digest;
+use crate::workloads::draw::Draw;
+use crate::workloads::script::Script;
+use crate::workloads::size::Size;
+use crate::workloads::trade::{Party, add_all};
 use desk_book::Desk;
 use memory_register::ListRegister;
 use std::alloc::Global;

@@ -1,14 +1,15 @@
 //! Connections, each with its head.
 
-use crate::codes::{bic, isin, reference};
-use crate::day::BASES;
-use crate::days::{new_desk, play};
-use crate::digest::Digest;
-use crate::draw::Draw;
 use crate::failure::Failure;
-use crate::messages::{drawn_side, drawn_trade};
-use crate::script::Script;
-use crate::trade::{Party, add_all};
+use crate::in_memory::new_desk;
+use crate::workloads::codes::{bic, isin, reference};
+use crate::workloads::day::BASES;
+use crate::workloads::days::play;
+use crate::workloads::digest::Digest;
+use crate::workloads::draw::Draw;
+use crate::workloads::messages::{drawn_side, drawn_trade};
+use crate::workloads::script::Script;
+use crate::workloads::trade::{Party, add_all};
 use desk_book::Desk;
 use desk_http::{Routes, serve_one};
 use itoa::Buffer;

@@ -8,13 +8,13 @@ ghost use Rattle.desk_register.specs.Changes.{empty_content};
 ghost use Rattle.desk_register.specs.View.{IfTrusted};
 ghost use Rattle.desk_register.specs.declared.register.Stage.TheVariants.{Idle};
 
-use crate::day::{Day, Depository};
-use crate::days::play_day;
-use crate::digest::Digest;
-use crate::draw::Draw;
 use crate::failure::Failure;
-use crate::memory_file::MemoryFile;
-use crate::size::Size;
+use crate::workloads::day::{Day, Depository};
+use crate::workloads::days::play_day;
+use crate::workloads::digest::Digest;
+use crate::workloads::draw::Draw;
+use crate::workloads::memory_file::MemoryFile;
+use crate::workloads::size::Size;
 use desk_book::Desk;
 use desk_file::MirroredRegister;
 use desk_register::{Register, ToldRegister};
@@ -91,7 +91,7 @@ pub fn play_over_tables(
     };
     match Connection::open_files(alloc, files, Options::new(SALT)) {
         Ok(conn) => play_on(alloc, registers, conn, &mut day, requests, digest),
-        Err(_) => Err(Failure::Tables),
+        Err(_) => Err(Failure::Storage),
     }
 }
 
@@ -111,7 +111,7 @@ fn play_on<S: Alter + Drop>(
             Registers::Both => play_over_both(alloc, tables, day, requests, digest),
             Registers::Tables => play_over(alloc, tables, day, requests, digest),
         },
-        Err(_) => Err(Failure::Tables),
+        Err(_) => Err(Failure::Storage),
     }
 }
 

@@ -2,13 +2,13 @@
 ghost use Rattle.std.specs.Prelude.{◌≡◌, ◌<◌, true};
 ghost use Rattle.desk_msg.specs.MessageType.{is_instruction};
 
-use crate::codes::{account, bic, day, isin, reference};
-use crate::connections::serve_all;
-use crate::digest::Digest;
-use crate::draw::Draw;
 use crate::failure::Failure;
-use crate::size::Size;
-use crate::trade::{Party, Side, Trade, add_all, agent};
+use crate::workloads::codes::{account, bic, day, isin, reference};
+use crate::workloads::connections::serve_all;
+use crate::workloads::digest::Digest;
+use crate::workloads::draw::Draw;
+use crate::workloads::size::Size;
+use crate::workloads::trade::{Party, Side, Trade, add_all, agent};
 use desk_msg::{Mt, ReadFault, fields_text, read_instruction_text, refusal_text};
 use std::alloc::Global;
 

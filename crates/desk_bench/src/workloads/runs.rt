@@ -1,14 +1,15 @@
 //! Settlement runs over much that waits.
 
-use crate::codes::isin;
-use crate::day::BASES;
-use crate::days::{new_desk, play};
-use crate::digest::Digest;
-use crate::draw::Draw;
 use crate::failure::Failure;
-use crate::script::Script;
-use crate::size::Size;
-use crate::trade::{Party, Side, Trade};
+use crate::in_memory::new_desk;
+use crate::workloads::codes::isin;
+use crate::workloads::day::BASES;
+use crate::workloads::days::play;
+use crate::workloads::digest::Digest;
+use crate::workloads::draw::Draw;
+use crate::workloads::script::Script;
+use crate::workloads::size::Size;
+use crate::workloads::trade::{Party, Side, Trade};
 use std::alloc::Global;
 
 /// A settlement day.

@@ -1,7 +1,7 @@
 //! Trades, and what both sides instruct of them.
 
-use crate::codes::{account, bic, day, reference};
 use crate::failure::Failure;
+use crate::workloads::codes::{account, bic, day, reference};
 use itoa::Buffer;
 
 /// A side of a trade.

@@ -1,8 +1,8 @@
 //! Requests as lines of a script.
 
-use crate::codes::{account, bic, day, reference};
 use crate::failure::Failure;
-use crate::trade::{Party, Side, Trade, add_all};
+use crate::workloads::codes::{account, bic, day, reference};
+use crate::workloads::trade::{Party, Side, Trade, add_all};
 use itoa::Buffer;
 
 /// A script that is being written.

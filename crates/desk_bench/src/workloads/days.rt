@@ -1,11 +1,12 @@
 //! Days, played as scripts over a register.
 ghost use Rattle.std.specs.Prelude.{◌<◌};
 
-use crate::day::{Day, Depository};
-use crate::digest::Digest;
-use crate::draw::Draw;
 use crate::failure::Failure;
-use crate::size::Size;
+use crate::in_memory::new_desk;
+use crate::workloads::day::{Day, Depository};
+use crate::workloads::digest::Digest;
+use crate::workloads::draw::Draw;
+use crate::workloads::size::Size;
 use desk_book::Desk;
 use desk_register::Register;
 use desk_rules::MOST_ENTRIES;
@@ -34,11 +35,6 @@ const LARGE: Depository = Depository {
     pairs_a_run: 2_000,
     is_asked: true,
 };
-
-/// A desk in memory that has no entry.
-pub fn new_desk(alloc: Global) -> Desk<ListRegister> {
-    Desk::new(ListRegister::new(alloc, MOST_ENTRIES))
-}
 
 /// Plays two days: one at a small depository, one at a large one.
 pub fn play_days(
