@@ -14,14 +14,18 @@ fn is_reply(answer: &Result<Reply, Fault>, status: u16, text: &[u8]) -> bool {
     }
 }
 
-/// Whether a desk that has no room for another entry answers a command once more as accepted, and refuses a further one that
-/// is asked with it.
-fn is_full(alloc: Global, desk: &mut Desk<ListRegister>, first: &[u8]) -> Result<bool, Fail> {
+/// Whether a desk that may hold one entry accepts a command, and then answers it once more as accepted, and refuses a further one
+/// that is asked with it.
+fn is_full_behind_one(alloc: Global, desk: &mut Desk<ListRegister>) -> Result<bool, Fail> {
+    let first = br#"{"op":"participant","ref":"P1","bic":"ALPHDEFF"}"#.as_slice();
     let second = br#"{"op":"participant","ref":"P2","bic":"BETADEFF"}"#.as_slice();
     let requests = [
         Question::Operator.with(first),
         Question::Operator.with(second),
     ];
+    if !is_reply(&desk.ask(alloc, &requests[0]), 200, b"accepted 1") {
+        return Ok(false);
+    }
     let answers = desk.ask_all(alloc, &requests)?;
     Ok(match answers.as_slice() {
         [first, second] => {
@@ -33,10 +37,6 @@ fn is_full(alloc: Global, desk: &mut Desk<ListRegister>, first: &[u8]) -> Result
 
 #[test]
 fn a_desk_of_one_entry(rt: HostRuntime) -> Result<(), Fail> {
-    let mut desk = new_desk(rt.alloc(), 1);
-    let command = br#"{"op":"participant","ref":"P1","bic":"ALPHDEFF"}"#.as_slice();
-    let reply = desk.ask(rt.alloc(), &Question::Operator.with(command))?;
-    assert!(rt; reply.status == 200 && reply.text.as_bytes() == b"accepted 1".as_slice());
-    assert!(rt; is_full(rt.alloc(), &mut desk, command)?);
+    assert!(rt; is_full_behind_one(rt.alloc(), &mut new_desk(rt.alloc(), 1))?);
     Ok(())
 }

@@ -56,14 +56,20 @@ fn are_failed_writes_told(
     Ok(whole.writes > 1)
 }
 
+/// Whether that is so of the statement and of the sums, once the script was played.
+fn are_all_told(alloc: Global, desk: &mut Desk<ListRegister>) -> Result<bool, Fail> {
+    let owner = Bic::parse(b"BETADEFF")?;
+    let mut script = SCRIPT;
+    desk.play(alloc, &mut script, &mut io::sink())?;
+    Ok(
+        are_failed_writes_told(alloc, desk, &Some(owner))?
+            && are_failed_writes_told(alloc, desk, &None)?,
+    )
+}
+
 /// Whichever write fails, that is told, and a front of the text was written.
 #[test]
 fn each_failed_write_is_told(rt: HostRuntime) -> Result<(), Fail> {
-    let owner = Bic::parse(b"BETADEFF")?;
-    let mut desk = new_desk(rt.alloc(), MOST_ENTRIES);
-    let mut script = SCRIPT;
-    desk.play(rt.alloc(), &mut script, &mut io::sink())?;
-    assert!(rt; are_failed_writes_told(rt.alloc(), &mut desk, &Some(owner))?);
-    assert!(rt; are_failed_writes_told(rt.alloc(), &mut desk, &None)?);
+    assert!(rt; are_all_told(rt.alloc(), &mut new_desk(rt.alloc(), MOST_ENTRIES))?);
     Ok(())
 }

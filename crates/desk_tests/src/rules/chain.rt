@@ -69,15 +69,26 @@ fn instruction(alloc: Global, side: &Side) -> Result<String, Fail> {
     )?)
 }
 
-/// The register of a desk that has played the opening, `before`, both deliveries and `behind`.
-pub fn played(alloc: Global, before: &[u8], behind: &[u8]) -> Result<ListRegister, Fail> {
-    let mut script = Vec::new(alloc);
+/// Writes a script: the opening, `before`, both deliveries and `behind`.
+fn write_script(
+    alloc: Global,
+    before: &[u8],
+    behind: &[u8],
+    script: &mut Vec<u8>,
+) -> Result<(), Fail> {
     script.extend_from_slice(OPENING)?;
     script.extend_from_slice(before)?;
     for side in &SIDES {
         script.extend_from_slice(instruction(alloc, side)?.as_bytes())?;
     }
     script.extend_from_slice(behind)?;
+    Ok(())
+}
+
+/// The register of a desk that has played such a script.
+pub fn played(alloc: Global, before: &[u8], behind: &[u8]) -> Result<ListRegister, Fail> {
+    let mut script = Vec::new(alloc);
+    write_script(alloc, before, behind, &mut script)?;
     let mut desk = new_desk(alloc, MOST_ENTRIES);
     desk.play(alloc, &mut script.as_slice(), &mut io::sink())?;
     Ok(desk.into_register())

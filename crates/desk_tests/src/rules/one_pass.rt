@@ -36,13 +36,18 @@ fn run_once(alloc: Global, text: &[u8]) -> Result<Kept, Fail> {
     Ok(Kept { entry, reply })
 }
 
+/// Adds what a register keeps of each entry.
+fn add_kept(alloc: Global, register: &mut ListRegister, kept: &mut Vec<Kept>) -> Result<(), Fail> {
+    for number in 1..=given(register.count(alloc))? {
+        kept.push(kept_at(alloc, register, number)?)?;
+    }
+    Ok(())
+}
+
 /// Whether an empty register takes in both deliveries, and a run of one pass behind them with this reply.
 fn is_taken_in(alloc: Global, text: &[u8]) -> Result<bool, Fail> {
-    let mut played = played(alloc, UNITS, b"")?;
     let mut kept = Vec::new(alloc);
-    for number in 1..=given(played.count(alloc))? {
-        kept.push(kept_at(alloc, &mut played, number)?)?;
-    }
+    add_kept(alloc, &mut played(alloc, UNITS, b"")?, &mut kept)?;
     kept.push(run_once(alloc, text)?)?;
     let mut register = ListRegister::new(alloc, MOST_ENTRIES);
     given(replay(alloc, &mut register, &kept))
