@@ -1,75 +1,70 @@
-"""Runs the workloads of workloads.txt by turns in two built checkouts: compare.py OLD NEW [SEED] [NAME..], those of these names
-(none: all). A workload is a line NAME CRATE WORD..: the proved program of the crate is run with the words in the folder bench
-of its checkout, the word SEED being a number, and a last word <FILE its standard input. Prints the median processor seconds of
-both and their ratio, and stops where what they print differs. Each is run with its own words. A workload that OLD does not have is
-told as new and not compared; it can be compared with the commit that brought it, and later ones."""
+"""Runs the workloads by turns in two built checkouts: compare.py OLD NEW [SEED] [NAME..], those of these names (none: all), which
+works.py has. Prints the median processor seconds of both and their ratio, and stops where what they answer differs. Of a checkout
+it needs the proved programs crates/desk/out/desk and crates/desk_bench/out/desk_bench alone."""
 
+import hashlib
 import os
 import statistics
-import subprocess
 import sys
+import tempfile
+
+sys.dont_write_bytecode = True
+
+from running import folder_in_memory  # noqa: E402
+from works import PROGRAMS, WORKLOADS, program, works_of  # noqa: E402
 
 TURNS = 9
 USUAL_SEED = 1
 
 
-def workloads_of(checkout):
-    """The words of each workload, by its name."""
-    with open(os.path.join(checkout, "bench", "workloads.txt"), encoding="ascii") as lines:
-        split = [line.split() for line in lines if line.strip()]
-    return {name: words for name, *words in split}
+def turn(checkout, works):
+    """A digest of what is answered in each work, and the seconds of all."""
+    digests, taken = [], 0
+    for work in works:
+        answers, seconds = work.done(checkout)
+        digests.append(hashlib.sha256(answers).hexdigest())
+        taken += seconds
+    return digests, taken
 
 
-def run(checkout, crate, words):
-    """What the program prints, and the processor seconds that it takes."""
-    program = os.path.join(checkout, "crates", crate, "out", crate)
-    folder = os.path.join(checkout, "bench")
-    source = subprocess.DEVNULL
-    if words and words[-1].startswith("<"):
-        source = open(os.path.join(folder, words[-1][1:]), "rb")
-        words = words[:-1]
-    child = subprocess.Popen([program, *words], cwd=folder, stdin=source, stdout=subprocess.PIPE)
-    printed = child.stdout.read()
-    _, status, used = os.wait4(child.pid, 0)
-    child.returncode = os.waitstatus_to_exitcode(status)
-    if child.returncode != 0:
-        sys.exit(f"{program} {' '.join(words)} ended with status {child.returncode}")
-    return printed, used.ru_utime + used.ru_stime
+def medians(name, checkouts, works):
+    """The median seconds of each checkout."""
+    times, wanted = ([], []), None
+    for number in range(TURNS):
+        # which of the two begins changes from turn to turn
+        for which in ((0, 1), (1, 0))[number % 2]:
+            digests, taken = turn(checkouts[which], works)
+            wanted = wanted or digests
+            if digests != wanted:
+                place = [one == other for one, other in zip(digests, wanted)].index(False)
+                sys.exit(f"{name}: in its work {place + 1} {checkouts[which]} answers otherwise than what was run before it")
+            times[which].append(taken)
+    return [statistics.median(of) for of in times]
+
+
+def compare(name, checkouts, seed):
+    """A workload's row of the table."""
+    with tempfile.TemporaryDirectory(dir=folder_in_memory()) as folder:
+        old, new = medians(name, checkouts, works_of(name, folder, seed))
+    return f"| {name} | {old:.3f} | {new:.3f} | {old / new:.2f} |"
 
 
 def main():
     if len(sys.argv) < 3:
         sys.exit("usage: bench/run OLD NEW [SEED] [NAME..]")
     checkouts = [os.path.abspath(path) for path in sys.argv[1:3]]
-    for checkout in checkouts:
-        if not os.path.isdir(os.path.join(checkout, "crates")):
-            sys.exit(f"{checkout} is no checkout")
+    for path in (program(checkout, crate) for checkout in checkouts for crate in PROGRAMS):
+        if not os.path.isfile(path):
+            sys.exit(f"there is no program {path}: docs/PERF.md says how it is built")
     names = sys.argv[3:]
-    seed = names.pop(0) if names and names[0].isdigit() else str(USUAL_SEED)
-    known, workloads = (workloads_of(checkout) for checkout in checkouts)
-    if unknown := [name for name in names if name not in workloads]:
-        sys.exit(f"{checkouts[1]} has no workload {unknown[0]}")
+    seed = int(names.pop(0)) if names and names[0].isdigit() else USUAL_SEED
+    if unknown := [name for name in names if name not in WORKLOADS]:
+        sys.exit(f"there is no workload {unknown[0]}")
     print(f"seed {seed}, {TURNS} turns, processor seconds, medians", flush=True)
     print("| workload | old | new | old over new |")
     print("|---|--:|--:|--:|", flush=True)
-    for name in names or workloads:
-        if name not in known:
-            print(f"| {name} | new | | |", flush=True)
-            continue
-        asked = [[seed if word == "SEED" else word for word in of[name]] for of in (known, workloads)]
-        times = [[], []]
-        printed = None
-        for turn in range(TURNS):
-            # which of the two begins changes from turn to turn
-            for which in ((0, 1), (1, 0))[turn % 2]:
-                crate, *words = asked[which]
-                text, seconds = run(checkouts[which], crate, words)
-                if printed not in (None, text):
-                    sys.exit(f"{name}: {checkouts[which]} prints {text!r}, and before it was {printed!r}")
-                printed = text
-                times[which].append(seconds)
-        old, new = (statistics.median(of) for of in times)
-        print(f"| {name} | {old:.3f} | {new:.3f} | {old / new:.2f} |", flush=True)
+    for name in names or WORKLOADS:
+        print(compare(name, checkouts, seed), flush=True)
 
 
 main()

@@ -6,7 +6,6 @@ import contextlib
 import functools
 import http.server
 import itertools
-import json
 import multiprocessing
 import os
 import re
@@ -23,8 +22,11 @@ import time
 sys.dont_write_bytecode = True
 sys.path.insert(0, os.path.join(os.path.dirname(os.path.abspath(__file__)), "..", "tests"))
 
+import scripts  # noqa: E402
 from lib.over_http import requests_of, sent_for  # noqa: E402
 from lib.play import requests_in  # noqa: E402
+from running import new_path, processor_seconds, ran  # noqa: E402
+from scripts import SUMS, command, sent, status  # noqa: E402
 from statements import Desk  # noqa: E402
 
 # How many requests are played; what is likely to take longer than so many seconds is skipped.
@@ -38,20 +40,18 @@ TURNS = 3
 DESK = "crates/desk/out/desk"
 LONGEST_SCRIPT = 16_777_216
 
-# The program that fills and opens files; and the folder in which files are made, one that lies in
-# memory, where there is such.
+# The program that fills and opens files.
 BENCH = "crates/desk_bench/out/desk_bench"
-SHARED_MEMORY = "/dev/shm"
 
 # A mixed day of so many requests is played beside its statements. The variable that names a folder on a disk for that (none:
 # the folder of the system for files of a time), and how often it is played there, since what waits for a device varies.
 DAY = 10_000
 DISK, DISK_TURNS = "BENCH_DISK", 7
 
-# In the scripts that are played: the security, the request for the totals, and after how many rounds a run settles
-# their pairs; and how many pairs a chain in the wrong order has.
+# In the scripts that are played: the security, the settlement day, and after how many rounds a run settles their pairs; and how
+# many pairs a chain in the wrong order has.
 SECURITY = "DE0007164600"
-SUMS = "sums\n"
+SETTLEMENT_DAY = "20240229"
 ROUNDS = 100
 CHAIN = 1_000
 REFERENCES = ["".join(it) for it in itertools.product(string.digits + string.ascii_uppercase, repeat=3)]
@@ -61,10 +61,6 @@ def processor_time():
     """The seconds that this process and those it ran have computed. Other work on the machine isn't in them."""
     spent = [resource.getrusage(who) for who in (resource.RUSAGE_SELF, resource.RUSAGE_CHILDREN)]
     return sum(it.ru_utime + it.ru_stime for it in spent)
-
-
-def command(**members):
-    return f"op\n{json.dumps(members, separators=(',', ':'))}\n.\n"
 
 
 # A side of a delivery: its BIC, its account, the types that it instructs with, free and against payment, and what its
@@ -82,22 +78,14 @@ def instruction(side, reference, lot):
     sender, account, types, qualifier = side
     quantity, amount = lot
     counterparty = (RECEIVER if sender == DELIVERER[0] else DELIVERER)[0]
-    lines = ["{4:", ":16R:GENL", f":20C::SEME//{reference}", ":23G:NEWM", ":16S:GENL"]
-    lines += [":16R:TRADDET", ":98A::SETT//20240229", f":35B:ISIN {SECURITY}", ":16S:TRADDET"]
-    lines += [":16R:FIAC", f":36B::SETT//UNIT/{quantity},", f":97A::SAFE//{account}", ":16S:FIAC"]
-    lines += [":16R:SETDET", ":22F::SETR//TRAD", ":16R:SETPRTY", f":95P::{qualifier}//{counterparty}", ":16S:SETPRTY"]
-    lines += [":16R:SETPRTY", ":95P::PSET//DESKDEFF", ":16S:SETPRTY"]
-    lines += [":16R:AMT", f":19A::SETT//{amount}", ":16S:AMT"] if amount else []
-    lines += [":16S:SETDET", "-}"]
-    return f"in {sender} {types[amount is not None]}\n" + "\n".join(lines) + "\n.\n"
+    text = scripts.instruction(reference, SETTLEMENT_DAY, SECURITY, quantity, account, f"{qualifier}//{counterparty}", amount)
+    return scripts.message(sender, types[amount is not None], text)
 
 
 def cancellation(side, reference, lot, previous):
     """A side's request to cancel its instruction of a lot."""
     sender, _, types, _ = side
-    lines = ["{4:", ":16R:GENL", f":20C::SEME//{reference}", ":23G:CANC", ":16R:LINK", f":20C::PREV//{previous}"]
-    lines += [":16S:LINK", ":16S:GENL", "-}"]
-    return f"in {sender} {types[lot[1] is not None]}\n" + "\n".join(lines) + "\n.\n"
+    return scripts.message(sender, types[lot[1] is not None], scripts.cancellation(reference, previous))
 
 
 # What a generated script asks first, so that pairs can settle.
@@ -144,11 +132,11 @@ def hundred_of(hundred):
     requests = [issue, command(op="payin", ref=f"M{mark}", bic="BETADEFF", ccy="EUR", amount=600), *follow(hundred)]
     for reference, lot in lots:
         requests += [instruction(DELIVERER, reference, lot), instruction(RECEIVER, reference, lot)]
-        requests += [f"status ALPHDEFF {reference}\n", f"sent BETADEFF {hundred + 1}\n"]
+        requests += [status("ALPHDEFF", reference), sent("BETADEFF", hundred + 1)]
     earlier = lots_of(max(hundred - 1, 0))[0][0]
-    questions = [f"status BETADEFF {earlier}\n", SUMS, f"sent ALPHDEFF {hundred + 1}\n", issue]
+    questions = [status("BETADEFF", earlier), SUMS, sent("ALPHDEFF", hundred + 1), issue]
     requests += (questions * 100)[: 99 - len(requests)]
-    return [*requests, command(op="run", ref=f"R{mark}", day="20240229")], LOTS - 1 + hundred % 2
+    return [*requests, command(op="run", ref=f"R{mark}", day=SETTLEMENT_DAY)], LOTS - 1 + hundred % 2
 
 
 def mixed_script(requests):
@@ -166,7 +154,7 @@ def free_round(number, is_last):
     return [
         instruction(DELIVERER, reference, FREE),
         instruction(RECEIVER, reference, FREE),
-        command(op="run", ref=f"N{reference}", day="20240229") if is_last or number % ROUNDS == 0 else SUMS,
+        command(op="run", ref=f"N{reference}", day=SETTLEMENT_DAY) if is_last or number % ROUNDS == 0 else SUMS,
         SUMS,
     ]
 
@@ -191,7 +179,7 @@ def chain_script(pairs):
     for link in reversed(range(pairs)):
         giving, taking = (*accounts[link], *DELIVERER[2:]), (*accounts[link + 1], *RECEIVER[2:])
         requests += [instruction(giving, REFERENCES[link], FREE), instruction(taking, REFERENCES[pairs + link], FREE)]
-    return "".join([*requests, command(op="run", ref="R1", day="20240229")]).encode(), pairs
+    return "".join([*requests, command(op="run", ref="R1", day=SETTLEMENT_DAY)]).encode(), pairs
 
 
 def played(words, script, pairs, clock=processor_time):
@@ -237,19 +225,8 @@ def played_by_desk(script, pairs):
     return played([DESK, "play"], script, pairs)
 
 
-def folder_in_memory():
-    return SHARED_MEMORY if os.path.isdir(SHARED_MEMORY) else tempfile.gettempdir()
-
-
 def folder_on_disk():
     return os.environ.get(DISK) or tempfile.gettempdir()
-
-
-@contextlib.contextmanager
-def new_path(beneath=None):
-    """A path at which there is no file, in a folder that goes with it, beneath this one, or one that lies in memory."""
-    with tempfile.TemporaryDirectory(dir=beneath or folder_in_memory()) as folder:
-        yield os.path.join(folder, "desk.db")
 
 
 def played_in_file(script, pairs, beneath=None, clock=processor_time):
@@ -389,12 +366,8 @@ def played_in_file_at(path, script):
 
 def opened(word, path):
     """The processor seconds that it takes to open a file, and the most memory that is in use, in kilobytes."""
-    child = subprocess.Popen([BENCH, word, path], stdout=subprocess.DEVNULL)
-    _, status, used = os.wait4(child.pid, 0)
-    child.returncode = os.waitstatus_to_exitcode(status)
-    if child.returncode != 0:
-        sys.exit(f"{word} {path} ended with status {child.returncode}")
-    return used.ru_utime + used.ru_stime, used.ru_maxrss
+    _, used = ran([BENCH, word, path])
+    return processor_seconds(used), used.ru_maxrss
 
 
 def measure_open():

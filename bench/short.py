@@ -8,6 +8,7 @@ import itertools
 import sys
 
 from counting import COST, UNIT
+from scripts import instruction, message
 
 DAY, ISIN = "20240314", "DE0007164600"
 IN_WORDS = {1: "one run", 2: "two runs", 3: "three runs", 50: "fifty runs"}
@@ -57,14 +58,9 @@ class Script:
             (receiver, 541 if amount else 540, "DEAG", "ALPHDEFF", taken, f"R{number}"),
         )
         for bic, kind, role, counterparty, account, reference in sides:
-            lines = ["{4:", ":16R:GENL", f":20C::SEME//{reference}", ":23G:NEWM", ":16S:GENL"]
-            lines += [":16R:TRADDET", f":98A::SETT//{DAY}", f":35B:ISIN {ISIN}", ":16S:TRADDET"]
-            lines += [":16R:FIAC", f":36B::SETT//UNIT/{QUANTITY},", f":97A::SAFE//{account}", ":16S:FIAC"]
-            lines += [":16R:SETDET", ":22F::SETR//TRAD", ":16R:SETPRTY", f":95P::{role}//{counterparty}"]
-            lines += [":16S:SETPRTY", ":16R:SETPRTY", ":95P::PSET//DESKDEFF", ":16S:SETPRTY"]
-            lines += [":16R:AMT", f":19A::SETT//EUR{amount},", ":16S:AMT"] if amount else []
-            lines += [":16S:SETDET", "-}"]
-            self.requests.append(f"in {bic} {kind}\n" + "\n".join(lines) + "\n.\n")
+            paid = f"EUR{amount}," if amount else None
+            text = instruction(reference, DAY, ISIN, QUANTITY, account, f"{role}//{counterparty}", paid)
+            self.requests.append(message(bic, kind, text))
 
 
 def lacking(what, pairs):

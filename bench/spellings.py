@@ -6,8 +6,9 @@ taken off. It prints a row of a table for each spelling: the cost of one command
 import json
 import sys
 
-from codes import bic, isin
+from codes import account, bic, isin
 from counting import COST, UNIT
+from scripts import by_name, compact, pretty, spaced
 
 EACH = 625
 
@@ -15,12 +16,12 @@ EACH = 625
 def commands():
     """The members of each command, the operation and the reference first."""
     for number in range(EACH):
-        name, account, security = bic(number), f"SAFE-{number:06d}", isin(number)
-        moved = {"account": account, "isin": security}
+        name, holder, security = bic(number), account(number), isin(number)
+        moved = {"account": holder, "isin": security}
         paid = {"bic": name, "ccy": "EUR"}
         yield from (
             {"op": "participant", "ref": f"P{number}", "bic": name},
-            {"op": "account", "ref": f"A{number}", "bic": name, "account": account},
+            {"op": "account", "ref": f"A{number}", "bic": name, "account": holder},
             {"op": "security", "ref": f"S{number}", "isin": security, "kind": "UNIT"},
             {"op": "issue", "ref": f"I{number}", **moved, "quantity": 1000 + number},
             {"op": "redeem", "ref": f"R{number}", **moved, "quantity": 1 + number},
@@ -30,18 +31,10 @@ def commands():
         )
 
 
-def compact(members):
-    return json.dumps(members, separators=(",", ":"))
-
-
-def pretty(members):
-    return json.dumps(members, indent=2)
-
-
 SPELLINGS = {
     "compact": compact,
-    "with spaces": json.dumps,
-    "sorted": lambda members: json.dumps(members, sort_keys=True, separators=(",", ":")),
+    "with spaces": spaced,
+    "sorted": by_name,
     "sorted, with spaces": lambda members: json.dumps(members, sort_keys=True),
     "pretty-printed": pretty,
     "with CR LF": lambda members: compact(members) + "\r",

@@ -2,11 +2,11 @@
 participants have 2,000 accounts in 1,000 securities; of the entries a fifth are issues and pay ins, the others instructions, of
 which most are settled in runs, some wait for units that are lacking, and some have no mate. bench/RESULTS.md has its figures."""
 
-import json
 import random
 import sys
 
 import codes
+import scripts
 
 DAY = "20240314"
 PARTICIPANTS, ACCOUNTS, SECURITIES = 500, 2_000, 1_000
@@ -26,20 +26,17 @@ class Script:
 
     def ask(self, request):
         if self.before < self.count <= self.last:
-            print(request)
+            print(request, end="")
 
     def command(self, op, **members):
         self.count += 1
-        self.ask(f"op\n{json.dumps({'op': op, 'ref': f'C{self.count}', **members}, separators=(',', ':'))}\n.")
+        self.ask(scripts.command(op=op, ref=f"C{self.count}", **members))
 
     def instruct(self, home, other, kind, role, isin, quantity):
         self.count += 1
         account, bic = home
-        lines = ["{4:", ":16R:GENL", f":20C::SEME//M{self.count}", ":23G:NEWM", ":16S:GENL", ":16R:TRADDET", f":98A::SETT//{DAY}"]
-        lines += [f":35B:ISIN {isin}", ":16S:TRADDET", ":16R:FIAC", f":36B::SETT//UNIT/{quantity},", f":97A::SAFE//{account}"]
-        lines += [":16S:FIAC", ":16R:SETDET", ":22F::SETR//TRAD", ":16R:SETPRTY", f":95P::{role}//{other[1]}", ":16S:SETPRTY"]
-        lines += [":16R:SETPRTY", ":95P::PSET//DESKDEFF", ":16S:SETPRTY", ":16S:SETDET", "-}"]
-        self.ask(f"in {bic} {kind}\n" + "\n".join(lines) + "\n.")
+        text = scripts.instruction(f"M{self.count}", DAY, isin, quantity, account, f"{role}//{other[1]}")
+        self.ask(scripts.message(bic, kind, text))
 
 
 def main(entries, part, parts):

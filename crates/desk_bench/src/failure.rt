@@ -2,7 +2,6 @@
 
 use desk_book::{Fault as DeskFault, PlayFault, ToFault};
 use desk_codes::CodeFault;
-use desk_engine::Failure as StepFailure;
 use desk_file::OpenFault;
 use desk_register::Fault;
 use sqlite::{Error, ErrorCode};
@@ -28,8 +27,6 @@ pub enum Failure {
     Input,
     /// A file was not read, or what was to be printed was not.
     Stream,
-    /// A connection was not served.
-    Connection,
 }
 
 impl From<AllocError> for Failure {
@@ -49,15 +46,6 @@ impl From<Fault> for Failure {
         match fault {
             Fault::Memory => Failure::Memory,
             Fault::Storage => Failure::Storage,
-        }
-    }
-}
-
-impl From<StepFailure> for Failure {
-    fn from(failure: StepFailure) -> Failure {
-        match failure {
-            StepFailure::Undone(fault) => Failure::from(fault),
-            StepFailure::Lost => Failure::Storage,
         }
     }
 }

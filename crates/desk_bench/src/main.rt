@@ -27,9 +27,6 @@
 //!
 //! `statement COUNT` and `sums COUNT` write the statement of an account that holds so many securities, or the totals of as
 //! many, straight to standard output, for `tests/parts/cases bounded_memory`.
-//!
-//! `time KIND SEED ROUNDS` does so many rounds of a workload of the benchmark, and `time trial` a small one of each kind; a digest
-//! of all results is printed, with their length.
 #![tactic(auto)]
 
 mod connections;
@@ -42,7 +39,6 @@ mod stops;
 mod streams;
 mod tables;
 mod work;
-mod workloads;
 
 use crate::failure::Failure;
 use crate::work::Work;
@@ -89,8 +85,6 @@ fn done(rt: &HostRuntime, work: Work<'_>) -> Result<bool, Failure> {
         Work::Stopped(stops) => stops::play_stopped(rt, stops),
         Work::Schema(path) => opening::tell_schema(rt, path),
         Work::Report(form, count) => reports::print(rt, form, count),
-        Work::Time(kind, seed, rounds) => workloads::time(rt, kind, seed, rounds),
-        Work::Trial => workloads::try_all(rt),
     }
 }
 

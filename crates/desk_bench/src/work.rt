@@ -4,7 +4,6 @@ use crate::damaged::Call;
 use crate::reports::Form;
 use crate::stops::Stops;
 use crate::tables::Registers;
-use crate::workloads::Kind;
 use desk_rules::MOST_ENTRIES;
 
 /// What the words ask for.
@@ -34,10 +33,6 @@ pub enum Work<'a> {
     Schema(&'a str),
     /// A report of so many securities is written.
     Report(Form, u32),
-    /// A workload of a kind is done, of a seed, in so many rounds.
-    Time(Kind, u32, u32),
-    /// A small workload of each kind is done.
-    Trial,
 }
 
 impl<'a> Work<'a> {
@@ -76,7 +71,6 @@ impl<'a> Work<'a> {
             "schema" => Work::Schema(word),
             "statement" => Work::Report(Form::Statement, number(word)?),
             "sums" => Work::Report(Form::Sums, number(word)?),
-            "time" if word == "trial" => Work::Trial,
             _ => return None,
         })
     }
@@ -122,7 +116,6 @@ impl<'a> Work<'a> {
                 row: second,
                 change: Some(third),
             },
-            "time" => Work::Time(Kind::read(first)?, number(second)?, number(third)?),
             _ => return None,
         })
     }
