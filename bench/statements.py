@@ -1,7 +1,8 @@
 """The statements that the desk of a file asks as it plays a mixed day of bench/measure.py, in their order, for Python's SQLite to
 run: memory answers what is asked, so they are those that change the tables, with what these look up for that. They are found by a
 desk of the barest kind over a database in memory: it knows the requests of such a day alone, takes each as accepted, and writes a
-text of the same length for each reply and message. The texts of the statements are those of the desk's sources."""
+text of the same length for each reply and message. The texts of the statements are those of the desk's sources, where macros make
+those of the tables, which a case has."""
 
 import bisect
 import collections
@@ -11,9 +12,10 @@ import json
 import re
 import sqlite3
 
-# the crates whose statements these are
+# the texts that make the tables, and the crates whose statements the others are
+TABLES = "cases/tables/texts.sql"
 CRATES = ["sql_tables", "sql_entries", "sql_standings", "sql_amounts", "sql_sent"]
-STATEMENT = re.compile(r'"((?:CREATE|SELECT|INSERT|UPDATE|DELETE|BEGIN|COMMIT|SAVEPOINT|RELEASE|ROLLBACK)\b[^"]*)"')
+STATEMENT = re.compile(r'"((?:SELECT|INSERT|UPDATE|DELETE|BEGIN|COMMIT|SAVEPOINT|RELEASE|ROLLBACK)\b[^"]*)"')
 
 KINDS = {"participant": 1, "account": 2, "security": 3, "issue": 4, "redeem": 5, "payin": 6, "payout": 7, "run": 10}
 MATCHED, CANCELLED, SETTLED = 2, 3, 4
@@ -36,8 +38,9 @@ UNMATCHED, PAIRED, CANCELS, FREE, PAID = 246, 286, 167, 385, 424
 
 @functools.cache
 def texts():
-    """The texts of the statements, as the sources have them."""
-    found = []
+    """The texts of the statements, as the case and the sources have them."""
+    with open(TABLES, encoding="utf-8") as file:
+        found = [it.removesuffix(";") for it in file.read().splitlines()]
     for crate in CRATES:
         for name in sorted(glob.glob(f"crates/{crate}/src/*.rt")):
             with open(name, encoding="utf-8") as file:
