@@ -12,9 +12,9 @@ import json
 import re
 import sqlite3
 
-# the texts that make the tables, and the crates whose statements the others are
+# the texts that make the tables, and where the other statements stand
 TABLES = "cases/tables/texts.sql"
-CRATES = ["sql_tables", "sql_entries", "sql_standings", "sql_amounts", "sql_sent"]
+FOLDERS = ["sql_tables/src", "sql_entries/src", "sql_rows/src/standings", "sql_rows/src/amounts", "sql_rows/src/sent"]
 STATEMENT = re.compile(r'"((?:SELECT|INSERT|UPDATE|DELETE|BEGIN|COMMIT|SAVEPOINT|RELEASE|ROLLBACK)\b[^"]*)"')
 
 KINDS = {"participant": 1, "account": 2, "security": 3, "issue": 4, "redeem": 5, "payin": 6, "payout": 7, "run": 10}
@@ -41,8 +41,8 @@ def texts():
     """The texts of the statements, as the case and the sources have them."""
     with open(TABLES, encoding="utf-8") as file:
         found = [it.removesuffix(";") for it in file.read().splitlines()]
-    for crate in CRATES:
-        for name in sorted(glob.glob(f"crates/{crate}/src/*.rt")):
+    for folder in FOLDERS:
+        for name in sorted(glob.glob(f"crates/{folder}/*.rt")):
             with open(name, encoding="utf-8") as file:
                 found += STATEMENT.findall(file.read())
     return found

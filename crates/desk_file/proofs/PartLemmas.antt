@@ -7,7 +7,7 @@ use Rattle.desk_rules.specs.Books.{Books}
 use Rattle.desk_rules.specs.Content.{Content}
 use Rattle.desk_rules.specs.WellFormed.{AreWellFormed}
 use Rattle.desk_engine.specs.Applied.{Keeps as KeepsBooks}
-use Rattle.sql_standings.specs.Standings.{standing_in}
+use Rattle.sql_rows.specs.Standings.{standing_in}
 use Rattle.sql_register.specs.Content.{content_in}
 use Rattle.sql_register.specs.Holds.{AreTotals, Becomes, Keeps, outstanding_in, paid_in_table}
 use Rattle.sql_register.specs.RowsSaid.{kept_in}

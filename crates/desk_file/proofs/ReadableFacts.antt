@@ -22,9 +22,9 @@ use Rattle.desk_engine.specs.Applied.{Keeps}
 use Rattle.desk_engine.specs.KeptHistory.{HoldsKept}
 use Rattle.desk_holdings.proofs.AboveLemmas.{registered}
 use Rattle.desk_holdings.proofs.RegisteredLemmas.{holds_registered}
-use Rattle.sql_amounts.specs.declared.key.AmountKey.{AmountKey}
-use Rattle.sql_amounts.specs.declared.key.AmountKey.TheVariants as keys
-use Rattle.sql_amounts.specs.Said.{HasReadable, IsReadable, IsSaid}
+use Rattle.sql_rows.specs.declared.amounts.key.AmountKey.{AmountKey}
+use Rattle.sql_rows.specs.declared.amounts.key.AmountKey.TheVariants as keys
+use Rattle.sql_rows.specs.Said.{HasReadable, IsReadable, IsSaid}
 use Rattle.desk_file.proofs.ContentFacts.{h_is, stranger_has_none, stranger_holds_none}
 
 abbrev Each : List Entry → Type 0

@@ -11,15 +11,15 @@ use Rattle.desk_rules.specs.Content.{Content, history_of}
 use Rattle.desk_rules.specs.History.{instructed, instruction_at}
 use Rattle.desk_rules.specs.WellFormed.{AreWellFormed}
 use Rattle.desk_engine.specs.KeptHistory.{HoldsKept}
-use Rattle.sql_amounts.specs.declared.key.AmountKey.TheVariants as keys
+use Rattle.sql_rows.specs.declared.amounts.key.AmountKey.TheVariants as keys
 use Rattle.sql_tables.specs.Schema.{desk_schema}
 use Rattle.sql_tables.specs.Version.{HasVersion}
-use Rattle.sql_amounts.specs.Said.{HasNoStranger}
+use Rattle.sql_rows.specs.Said.{HasNoStranger}
 use Rattle.sql_tables.specs.declared.fault.AuditFault.{AuditFault}
 use Rattle.desk_file.specs.declared.audit.auditing.Audited.{Audited}
 use Rattle.desk_file.specs.declared.audit.auditing.Audited.TheVariants.{Whole}
 use Rattle.desk_file.specs.Reading.{IsRead}
-use Rattle.sql_standings.specs.Told.{StandsWithin}
+use Rattle.sql_rows.specs.StandingsTold.{StandsWithin}
 use Rattle.desk_file.specs.Audited.{IsAudited, IsFilled, SaysRest}
 use Rattle.desk_file.specs.Parts.{HasParts}
 use Rattle.desk_file.proofs.ContentFacts.{stands_nowhere, stranger_has_none, stranger_holds_none}

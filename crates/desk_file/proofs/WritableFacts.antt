@@ -34,7 +34,7 @@ use Rattle.desk_rules.proofs.WellFormedLemmas.{formed_at}
 use Rattle.desk_engine.specs.Applied.{Keeps}
 use Rattle.desk_engine.proofs.AcceptingLemmas.{entries_within}
 use Rattle.sql_entries.specs.Shown.{HasShortNumbers, HaveShortNumbers}
-use Rattle.sql_sent.specs.Messages.{IsSendable}
+use Rattle.sql_rows.specs.Messages.{IsSendable}
 
 -- ---- an instruction stands somewhere
 

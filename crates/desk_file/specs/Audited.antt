@@ -5,11 +5,11 @@ use Rattle.desk_rules.specs.Content.{Content, history_of}
 use Rattle.desk_rules.specs.WellFormed.{AreWellFormed}
 use Rattle.desk_engine.specs.KeptHistory.{HoldsKept}
 use Rattle.sql_register.specs.Holds.{Becomes}
-use Rattle.sql_sent.specs.Messages.{AreSent}
+use Rattle.sql_rows.specs.Messages.{AreSent}
 use Rattle.sql_tables.specs.Version.{HasVersion}
-use Rattle.sql_amounts.specs.Said.{HasAmounts}
+use Rattle.sql_rows.specs.Said.{HasAmounts}
 use Rattle.desk_file.specs.Reading.{IsRead}
-use Rattle.sql_standings.specs.Told.{SaysStandings}
+use Rattle.sql_rows.specs.StandingsTold.{SaysStandings}
 
 -- The database is the desk's tables of this version, and says this content; and a register that holds the content has taken each
 -- of its entries, all well formed, in its turn, and gave each the reply that is kept.

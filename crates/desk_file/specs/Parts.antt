@@ -6,11 +6,11 @@ use Rattle.desk_codes.specs.Currency.{letters_of}
 use Rattle.desk_rules.specs.Balances.{issued, redeemed}
 use Rattle.desk_rules.specs.Content.{Content, history_of}
 use Rattle.desk_register.specs.Looked.{IsPaid}
-use Rattle.sql_amounts.specs.declared.key.Ledger.TheVariants.{Balance, Cash}
-use Rattle.sql_amounts.specs.Amounts.{AreAmounts, amount_in}
+use Rattle.sql_rows.specs.declared.amounts.key.Ledger.TheVariants.{Balance, Cash}
+use Rattle.sql_rows.specs.Amounts.{AreAmounts, amount_in}
 use Rattle.sql_entries.specs.Entries.{AreEntries}
-use Rattle.sql_sent.specs.Messages.{AreSent}
-use Rattle.sql_standings.specs.Standings.{AreStandings, standing_in}
+use Rattle.sql_rows.specs.Messages.{AreSent}
+use Rattle.sql_rows.specs.Standings.{AreStandings, standing_in}
 use Rattle.sql_tables.specs.Schema.{desk_schema}
 use Rattle.sql_register.specs.Holds.{outstanding_in, paid_in_table}
 

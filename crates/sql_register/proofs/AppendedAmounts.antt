@@ -2,15 +2,15 @@
 use Rattle.std.proofs.Common.{◌≡◌, refl, sym, ap, ◌∙◌, ℕ, ◌+◌, cond, Bool, List, [], Option, Some, true, false, unwrap_or, codes, length, arith}
 use Rattle.std.specs.Prelude.{◌&&◌, bytes_eq}
 use Rattle.sqlite.specs.Effect.{Database}
-use Rattle.sql_amounts.specs.Amounts.{amount_in}
-use Rattle.sql_amounts.specs.Changes.{SetsAmount, had}
-use Rattle.sql_amounts.specs.Keys.{is_of}
-use Rattle.sql_amounts.specs.declared.key.AmountKey.{AmountKey}
-use Rattle.sql_amounts.specs.declared.key.AmountKey.TheVariants.{Currency, Security as SecurityTotal}
-use Rattle.sql_amounts.specs.declared.key.AmountKey.TheVariants as keys
-use Rattle.sql_amounts.specs.declared.key.Ledger.{Ledger}
-use Rattle.sql_amounts.specs.declared.key.Ledger.TheVariants.{Balance, Cash, Total}
-use Rattle.sql_amounts.proofs.AmountLemmas.{SameAmounts, same_recorded}
+use Rattle.sql_rows.specs.Amounts.{amount_in}
+use Rattle.sql_rows.specs.Changes.{SetsAmount, had}
+use Rattle.sql_rows.specs.Keys.{is_of}
+use Rattle.sql_rows.specs.declared.amounts.key.AmountKey.{AmountKey}
+use Rattle.sql_rows.specs.declared.amounts.key.AmountKey.TheVariants.{Currency, Security as SecurityTotal}
+use Rattle.sql_rows.specs.declared.amounts.key.AmountKey.TheVariants as keys
+use Rattle.sql_rows.specs.declared.amounts.key.Ledger.{Ledger}
+use Rattle.sql_rows.specs.declared.amounts.key.Ledger.TheVariants.{Balance, Cash, Total}
+use Rattle.sql_rows.proofs.AmountLemmas.{SameAmounts, same_recorded}
 use Rattle.desk_codes.specs.Currency.{letters_of}
 use Rattle.desk_codes.specs.declared.currency.Ccy.{Ccy}
 use Rattle.desk_register.specs.Changes.{cash_after, cash_at, moved_to, positions_after}

@@ -2,7 +2,7 @@
 use Rattle.std.proofs.Common.{◌≡◌, ◌≢◌, inl, inr, refl, sym, ap, ◌∙◌, ℕ, ◌<◌, ◌==◌, List, Option, None, Some, true, false, arith}
 use Rattle.std.specs.Prelude.{is_none, option_and_then}
 use Rattle.sqlite.specs.Effect.{Database}
-use Rattle.sql_amounts.proofs.AmountLemmas.{SameAmounts, same_amounts}
+use Rattle.sql_rows.proofs.AmountLemmas.{SameAmounts, same_amounts}
 use Rattle.sql_entries.specs.Entries.{with_entry}
 use Rattle.sql_register.specs.Appending.{RowAdded}
 use Rattle.sql_entries.proofs.SameLemmas.{same_entries}
@@ -20,8 +20,8 @@ use Rattle.desk_rules.specs.declared.history.standing.State.TheVariants.{NoInstr
 use Rattle.desk_rules.specs.Content.{Content, history_of}
 use Rattle.desk_rules.specs.History.{instruction_at, number_of_key}
 use Rattle.desk_rules.specs.Verdict.{if_of_type, named_by}
-use Rattle.sql_standings.proofs.StandingLemmas.{same_standings, same_standing_in}
-use Rattle.sql_standings.specs.Standings.{AreStandings, StandingsChanged, standing_in}
+use Rattle.sql_rows.proofs.StandingLemmas.{same_standings, same_standing_in}
+use Rattle.sql_rows.specs.Standings.{AreStandings, StandingsChanged, standing_in}
 use Rattle.sql_tables.specs.Schema.{desk_schema}
 use Rattle.sql_register.specs.Content.{content_in}
 use Rattle.sql_register.specs.Holds.{Becomes, IsDesk}

@@ -1,7 +1,7 @@
 -- What the tables have become says the content with one entry more.
 use Rattle.std.proofs.Common.{◌≡◌, sym, ap, subst, ◌∙◌, ℕ, ◌+◌, ◌<◌, List, [], ◌∷◌, length, length-append, map, arith}
 use Rattle.sqlite.specs.Effect.{Database}
-use Rattle.sql_amounts.specs.Amounts.{AreAmounts}
+use Rattle.sql_rows.specs.Amounts.{AreAmounts}
 use Rattle.desk_codes.specs.declared.currency.Ccy.{Ccy}
 use Rattle.sql_entries.specs.Entries.{AreEntries, with_entry}
 use Rattle.sql_entries.specs.Shown.{HasShortNumbers}
@@ -11,9 +11,9 @@ use Rattle.desk_rules.specs.declared.answers.reply.Reply.{Reply}
 use Rattle.desk_rules.specs.Content.{history_of}
 use Rattle.desk_rules.specs.WellFormed.{AreWellFormed, IsWellFormed}
 use Rattle.desk_rules.proofs.WellFormedLemmas.{formed_push}
-use Rattle.sql_sent.proofs.RowLemmas.{all_more}
-use Rattle.sql_sent.proofs.TableLemmas.{same_sent}
-use Rattle.sql_standings.specs.Standings.{AreStandings, standing_in}
+use Rattle.sql_rows.proofs.SentRowLemmas.{all_more}
+use Rattle.sql_rows.proofs.SentTableLemmas.{same_sent}
+use Rattle.sql_rows.specs.Standings.{AreStandings, standing_in}
 use Rattle.sql_tables.specs.Schema.{desk_schema}
 use Rattle.sql_register.specs.Content.{content_in}
 use Rattle.sql_register.specs.Holds.{Becomes, IsDesk, Keeps}

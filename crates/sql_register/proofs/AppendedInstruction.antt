@@ -1,7 +1,7 @@
 -- An instruction more: its row, and that it stands unmatched.
 use Rattle.std.proofs.Common.{◌≡◌, inl, inr, refl, sym, ap, ◌∙◌, ℕ, ◌+◌, length, arith}
 use Rattle.sqlite.specs.Effect.{Database}
-use Rattle.sql_amounts.proofs.AmountLemmas.{SameAmounts, same_amounts}
+use Rattle.sql_rows.proofs.AmountLemmas.{SameAmounts, same_amounts}
 use Rattle.sql_entries.specs.Entries.{with_entry}
 use Rattle.sql_register.specs.Appending.{RowAdded}
 use Rattle.sql_entries.proofs.SameLemmas.{same_entries}
@@ -13,8 +13,8 @@ use Rattle.desk_rules.specs.declared.answers.reply.Reply.{Reply}
 use Rattle.desk_rules.specs.Content.{Content}
 use Rattle.desk_rules.specs.declared.history.standing.Standing.{Standing}
 use Rattle.desk_rules.specs.declared.history.standing.State.TheVariants.{NoInstruction}
-use Rattle.sql_standings.proofs.StandingLemmas.{same_standings, same_standing_in}
-use Rattle.sql_standings.specs.Standings.{AreStandings, StandingsChanged, fresh_standing, standing_in}
+use Rattle.sql_rows.proofs.StandingLemmas.{same_standings, same_standing_in}
+use Rattle.sql_rows.specs.Standings.{AreStandings, StandingsChanged, fresh_standing, standing_in}
 use Rattle.sql_tables.specs.Schema.{desk_schema}
 use Rattle.sql_register.specs.Content.{content_in}
 use Rattle.sql_register.specs.Holds.{Becomes, IsDesk}

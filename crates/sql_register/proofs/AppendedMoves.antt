@@ -2,12 +2,12 @@
 use Rattle.std.proofs.Common.{◌≡◌, inr, refl, sym, ap, ◌∙◌, ℕ, ◌+◌, ◌-◌, ◌<◌, ◌≤◌, ◌^◌, Bool, true, false, cond, length, Some, unwrap_or, arith, lit<}
 use Rattle.std.specs.Prelude.{bytes_eq}
 use Rattle.sqlite.specs.Effect.{Database}
-use Rattle.sql_amounts.specs.Amounts.{AreAmounts}
-use Rattle.sql_amounts.specs.Changes.{SetsAmount, had}
-use Rattle.sql_amounts.specs.declared.key.AmountKey.TheVariants.{Currency, Security as SecurityTotal}
-use Rattle.sql_amounts.specs.declared.key.AmountKey.TheVariants as keys
-use Rattle.sql_amounts.specs.declared.key.Ledger.TheVariants.{Balance, Cash}
-use Rattle.sql_amounts.proofs.AmountLemmas.{same_amounts, same_recorded}
+use Rattle.sql_rows.specs.Amounts.{AreAmounts}
+use Rattle.sql_rows.specs.Changes.{SetsAmount, had}
+use Rattle.sql_rows.specs.declared.amounts.key.AmountKey.TheVariants.{Currency, Security as SecurityTotal}
+use Rattle.sql_rows.specs.declared.amounts.key.AmountKey.TheVariants as keys
+use Rattle.sql_rows.specs.declared.amounts.key.Ledger.TheVariants.{Balance, Cash}
+use Rattle.sql_rows.proofs.AmountLemmas.{same_amounts, same_recorded}
 use Rattle.desk_codes.specs.Currency.{letters_of}
 use Rattle.sql_entries.specs.Entries.{with_entry}
 use Rattle.sql_register.specs.Appending.{RowAdded}

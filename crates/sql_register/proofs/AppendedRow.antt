@@ -1,8 +1,8 @@
 -- An entry that stands nowhere and requests nothing: its row, and what it moves.
 use Rattle.std.proofs.Common.{◌≡◌, inl, inr, refl, sym, ap, ◌∙◌, ℕ, ◌+◌, ◌<◌, List, length, None, arith}
 use Rattle.sqlite.specs.Effect.{Database}
-use Rattle.sql_amounts.specs.Amounts.{AreAmounts}
-use Rattle.sql_amounts.proofs.AmountLemmas.{SameAmounts, same_amounts}
+use Rattle.sql_rows.specs.Amounts.{AreAmounts}
+use Rattle.sql_rows.proofs.AmountLemmas.{SameAmounts, same_amounts}
 use Rattle.sql_entries.specs.Entries.{AreEntries, EntryAdded, with_entry}
 use Rattle.sql_entries.specs.Shown.{HasShortNumbers}
 use Rattle.desk_rules.specs.WellFormed.{IsWellFormed}
@@ -13,7 +13,7 @@ use Rattle.desk_rules.specs.declared.answers.reply.Kept.{Kept}
 use Rattle.desk_rules.specs.declared.answers.reply.Reply.{Reply}
 use Rattle.desk_rules.specs.Content.{history_of}
 use Rattle.desk_rules.specs.History.{instructed}
-use Rattle.sql_standings.proofs.StandingLemmas.{same_standings, same_standing_in}
+use Rattle.sql_rows.proofs.StandingLemmas.{same_standings, same_standing_in}
 use Rattle.sql_tables.specs.Schema.{desk_schema}
 use Rattle.sql_register.specs.Appending.{IsAlone, RowAdded}
 use Rattle.sql_register.specs.Content.{content_in}

@@ -10,7 +10,7 @@ use Rattle.desk_rules.specs.declared.history.standing.Standing.{Standing}
 use Rattle.desk_rules.specs.declared.history.standing.State.{State}
 use Rattle.desk_rules.specs.declared.history.standing.State.TheVariants.{NoInstruction}
 use Rattle.desk_rules.specs.History.{instruction_at}
-use Rattle.sql_standings.specs.Standings.{StandingsChanged, standing_in}
+use Rattle.sql_rows.specs.Standings.{StandingsChanged, standing_in}
 use Rattle.sql_tables.specs.Schema.{desk_schema}
 use Rattle.sql_register.specs.Content.{content_in}
 use Rattle.sql_register.specs.Holds.{Becomes, IsDesk}

@@ -21,7 +21,7 @@ use Rattle.desk_rules.specs.declared.history.entry.Instructed.{Instructed}
 use Rattle.desk_rules.proofs.Conservation.{owned}
 use Rattle.desk_rules.proofs.Decided.{Contains-from_In, In}
 use Rattle.desk_rules.proofs.HistoryLemmas.{instruction_at-known}
-use Rattle.sql_amounts.specs.Holdings.{HoldsIsins}
+use Rattle.sql_rows.specs.Holdings.{HoldsIsins}
 use Rattle.sql_tables.specs.Schema.{desk_schema}
 use Rattle.sql_tables.specs.Ends.{IfSound, IsLater, ForCause, IsLook, IsWrite}
 use Rattle.sql_tables.proofs.EndLemmas.{cause_onward}

@@ -1,8 +1,8 @@
 -- Parts of a content, by the trees that they depend on.
 use Rattle.std.proofs.Common.{◌≡◌, sym, ap, subst, ◌∙◌, ℕ, ◌+◌, List, map, unwrap_or, codes, sum_by, false, None}
 use Rattle.sqlite.specs.Effect.{Database}
-use Rattle.sql_amounts.specs.declared.key.Ledger.TheVariants.{Balance, Cash, Total}
-use Rattle.sql_amounts.proofs.AmountLemmas.{SameAmounts, same_recorded}
+use Rattle.sql_rows.specs.declared.amounts.key.Ledger.TheVariants.{Balance, Cash, Total}
+use Rattle.sql_rows.proofs.AmountLemmas.{SameAmounts, same_recorded}
 use Rattle.desk_codes.specs.Currency.{letters_of}
 use Rattle.desk_codes.specs.declared.currency.Ccy.{Ccy}
 use Rattle.desk_rules.specs.Balances.{issued, paid_in, paid_out, redeemed}

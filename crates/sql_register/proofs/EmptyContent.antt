@@ -8,10 +8,10 @@ use Rattle.sqlite.specs.Listing.{understood}
 use Rattle.sqlite.specs.State.{State, Executes, IsMisplaced}
 use Rattle.sqlite.proofs.Callers.{IsPlain, command_of, runs_as}
 use Rattle.sqlite_tied.specs.Compute.{everything}
-use Rattle.sql_amounts.specs.declared.key.Ledger.{Ledger}
-use Rattle.sql_amounts.specs.declared.key.Ledger.TheVariants.{Balance, Cash, Total}
-use Rattle.sql_amounts.specs.Keys.{tree_of}
-use Rattle.sql_amounts.proofs.AmountLemmas.{empty_amounts, empty_recorded}
+use Rattle.sql_rows.specs.declared.amounts.key.Ledger.{Ledger}
+use Rattle.sql_rows.specs.declared.amounts.key.Ledger.TheVariants.{Balance, Cash, Total}
+use Rattle.sql_rows.specs.Keys.{tree_of}
+use Rattle.sql_rows.proofs.AmountLemmas.{empty_amounts, empty_recorded}
 use Rattle.desk_codes.specs.Currency.{letters_of}
 use Rattle.desk_codes.specs.declared.currency.Ccy.{Ccy}
 use Rattle.sql_entries.proofs.SameLemmas.{no_entries}
@@ -20,8 +20,8 @@ use Rattle.desk_register.specs.Looked.{IsPaid}
 use Rattle.desk_rules.specs.declared.history.entry.Instructed.{Instructed}
 use Rattle.desk_rules.specs.History.{instruction_at}
 use Rattle.sql_tables.specs.Version.{SetsVersion}
-use Rattle.sql_sent.proofs.TableLemmas.{none_sent}
-use Rattle.sql_standings.proofs.StandingLemmas.{no_standings}
+use Rattle.sql_rows.proofs.SentTableLemmas.{none_sent}
+use Rattle.sql_rows.proofs.StandingLemmas.{no_standings}
 use Rattle.sql_tables.specs.Control.{Begins, begin_text}
 use Rattle.sql_tables.specs.Ends.{ForCause}
 use Rattle.sql_tables.specs.Making.{IsEmpty}

@@ -9,9 +9,9 @@ use Rattle.desk_register.specs.RegisteredOnce.{is_account}
 use Rattle.desk_rules.specs.Content.{history_of}
 use Rattle.desk_rules.specs.Facts.{accounts_of, is_participant, participants_of}
 use Rattle.desk_rules.specs.declared.history.entry.Entry.{Entry}
-use Rattle.sql_amounts.specs.Held.{total_cash, total_held}
-use Rattle.sql_amounts.specs.declared.key.Ledger.TheVariants.{Total}
-use Rattle.sql_amounts.proofs.HeldLemmas.{cash_listed, held_listed, small_amount}
+use Rattle.sql_rows.specs.Held.{total_cash, total_held}
+use Rattle.sql_rows.specs.declared.amounts.key.Ledger.TheVariants.{Total}
+use Rattle.sql_rows.proofs.HeldLemmas.{cash_listed, held_listed, small_amount}
 use Rattle.sql_register.specs.Content.{content_in}
 use Rattle.sql_register.specs.Holds.{IsDesk}
 

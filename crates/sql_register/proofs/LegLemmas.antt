@@ -12,11 +12,11 @@ use Rattle.desk_register.proofs.CaseLemmas.{by_bool, same_bytes}
 use Rattle.desk_rules.specs.Balances.{same_ccy}
 use Rattle.desk_rules.specs.Content.{CashBalances, Positions}
 use Rattle.desk_rules.specs.declared.history.entry.Instructed.{Instructed}
-use Rattle.sql_amounts.specs.Amounts.{AreAmounts, amount_at}
-use Rattle.sql_amounts.specs.Changes.{SetsAmount, Takes}
-use Rattle.sql_amounts.specs.declared.key.AmountKey.TheVariants as keys
-use Rattle.sql_amounts.specs.declared.key.Ledger.TheVariants.{Balance, Cash, Total}
-use Rattle.sql_amounts.proofs.AmountLemmas.{same_amounts, same_recorded, set_amounts, short_less, unchanged_amounts}
+use Rattle.sql_rows.specs.Amounts.{AreAmounts, amount_at}
+use Rattle.sql_rows.specs.Changes.{SetsAmount, Takes}
+use Rattle.sql_rows.specs.declared.amounts.key.AmountKey.TheVariants as keys
+use Rattle.sql_rows.specs.declared.amounts.key.Ledger.TheVariants.{Balance, Cash, Total}
+use Rattle.sql_rows.proofs.AmountLemmas.{same_amounts, same_recorded, set_amounts, short_less, unchanged_amounts}
 use Rattle.sql_tables.specs.Ends.{SparesOthers}
 use Rattle.sql_register.specs.Content.{content_in}
 use Rattle.sql_register.specs.Settling.{AmountsSo, MovesLegs, TakesCash, TakesHeld, less_cash, less_held, more_cash, more_held}

@@ -1,7 +1,7 @@
 -- What an account holds next is what is looked up.
 use Rattle.std.proofs.Common.{◌≡◌, refl, ap, ◌∙◌, ℕ, List, [], ◌∷◌, unwrap_or, Option, None, Some, arith}
 use Rattle.sqlite.specs.Effect.{Database}
-use Rattle.sql_amounts.specs.Holdings.{IsNextHolding, IsHeldAbove}
+use Rattle.sql_rows.specs.Holdings.{IsNextHolding, IsHeldAbove}
 use Rattle.desk_register.specs.declared.holding.Holding.{Holding}
 use Rattle.desk_register.specs.Looked.{HoldsAbove, IsAboveText, IsHoldingAfter, IsLess}
 use Rattle.sql_register.specs.Content.{content_in}

@@ -8,7 +8,7 @@ use Rattle.desk_rules.specs.declared.history.entry.Instructed.{Instructed}
 use Rattle.desk_rules.specs.declared.history.standing.Standing.{Standing}
 use Rattle.desk_rules.specs.declared.history.standing.State.{State}
 use Rattle.desk_rules.specs.declared.history.standing.State.TheVariants.{Matched, NoInstruction, Unmatched}
-use Rattle.sql_standings.specs.Standings.{StandingsChanged, standing_in}
+use Rattle.sql_rows.specs.Standings.{StandingsChanged, standing_in}
 use Rattle.sql_register.specs.Content.{content_in}
 use Rattle.sql_register.specs.Holds.{Becomes, IsDesk}
 use Rattle.sql_register.specs.Pairs.{StandAlready}

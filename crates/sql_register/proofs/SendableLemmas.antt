@@ -4,7 +4,7 @@ use Rattle.std.proofs.lemmas.Bool.{cases_Bool}
 use Rattle.std.specs.List.{AllByRecursion, find}
 use Rattle.desk_rules.specs.declared.answers.reply.Sent.{Sent}
 use Rattle.desk_rules.specs.Questions.{sent_at}
-use Rattle.sql_sent.specs.Messages.{IsSendable, sent_to}
+use Rattle.sql_rows.specs.Messages.{IsSendable, sent_to}
 
 pub found_sendable : (test : Sent → Bool) (messages : List Sent) → AllByRecursion IsSendable messages → IfSome (find test messages) IsSendable
 found_sendable test [] all = tt

@@ -4,14 +4,14 @@ use Rattle.std.specs.Int.{w64, cast_signed, cast_unsigned}
 use Rattle.std.specs.List.{AllByRecursion}
 use Rattle.std.proofs.lemmas.Int.{of_z-to_z}
 use Rattle.sqlite.specs.Effect.{Database}
-use Rattle.sql_amounts.proofs.AmountLemmas.{SameAmounts, same_amounts}
+use Rattle.sql_rows.proofs.AmountLemmas.{SameAmounts, same_amounts}
 use Rattle.desk_register.specs.Changes.{with_sent}
 use Rattle.sql_tables.specs.Schema.{desk_schema}
 use Rattle.desk_rules.specs.declared.answers.reply.Sent.{Sent}
 use Rattle.sql_entries.proofs.SameLemmas.{same_entries}
-use Rattle.sql_sent.specs.Messages.{AreSent, Adds, IsSendable, rows_from, stored}
-use Rattle.sql_sent.proofs.RowLemmas.{all_more}
-use Rattle.sql_standings.proofs.StandingLemmas.{same_standings, same_standing_in}
+use Rattle.sql_rows.specs.Messages.{AreSent, Adds, IsSendable, rows_from, stored}
+use Rattle.sql_rows.proofs.SentRowLemmas.{all_more}
+use Rattle.sql_rows.proofs.StandingLemmas.{same_standings, same_standing_in}
 use Rattle.sql_register.specs.Content.{content_in}
 use Rattle.sql_register.specs.Holds.{Becomes, IsDesk, Keeps}
 use Rattle.sql_register.specs.RowsSaid.{kept_in, sent_in}

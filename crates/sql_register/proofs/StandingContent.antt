@@ -2,7 +2,7 @@
 use Rattle.std.proofs.Common.{◌≡◌, ◌≢◌, inl, inr, refl, sym, ap, subst, ◌∙◌, ℕ, ◌==◌, cond, false, map, None, Some, arith, eq-eqb, eqb-true}
 use Rattle.std.proofs.lemmas.Bool.{cases_Bool}
 use Rattle.sqlite.specs.Effect.{Database}
-use Rattle.sql_amounts.proofs.AmountLemmas.{same_amounts}
+use Rattle.sql_rows.proofs.AmountLemmas.{same_amounts}
 use Rattle.desk_register.specs.Changes.{CanCancel, cancelled, standing_at}
 use Rattle.desk_rules.specs.Content.{Content, history_of}
 use Rattle.desk_rules.specs.declared.history.entry.Instructed.{Instructed}
@@ -11,8 +11,8 @@ use Rattle.desk_rules.specs.declared.history.standing.State.TheVariants.{Cancell
 use Rattle.desk_rules.specs.History.{instruction_at}
 use Rattle.desk_rules.specs.Standing.{no_standing}
 use Rattle.sql_entries.proofs.SameLemmas.{same_entries}
-use Rattle.sql_sent.proofs.TableLemmas.{same_sent}
-use Rattle.sql_standings.specs.Standings.{StandingsChanged, standing_in}
+use Rattle.sql_rows.proofs.SentTableLemmas.{same_sent}
+use Rattle.sql_rows.specs.Standings.{StandingsChanged, standing_in}
 use Rattle.sql_tables.specs.Schema.{desk_schema}
 use Rattle.sql_register.specs.Content.{content_in}
 use Rattle.sql_register.specs.Holds.{Becomes, IsDesk, Keeps}

@@ -17,8 +17,8 @@ use Rattle.desk_rules.specs.declared.history.entry.Entry.{Entry}
 use Rattle.desk_rules.specs.declared.history.entry.Instructed.{Instructed}
 use Rattle.desk_rules.specs.Facts.{accounts_of, is_participant, owner_of, participants_of}
 use Rattle.sql_entries.proofs.SameLemmas.{same_entries}
-use Rattle.sql_sent.proofs.TableLemmas.{same_sent}
-use Rattle.sql_standings.proofs.StandingLemmas.{same_standings, same_standing_in}
+use Rattle.sql_rows.proofs.SentTableLemmas.{same_sent}
+use Rattle.sql_rows.proofs.StandingLemmas.{same_standings, same_standing_in}
 use Rattle.sql_tables.specs.Schema.{desk_schema}
 use Rattle.sql_register.specs.Content.{content_in}
 use Rattle.sql_register.specs.Holds.{AreTotals, Becomes, IsDesk, Keeps, outstanding_in, paid_in_table}

@@ -17,7 +17,7 @@ use Rattle.desk_rules.specs.declared.history.standing.State.TheVariants.{Cancell
 use Rattle.desk_rules.proofs.PlaceLemmas.{before_never, before_through}
 use Rattle.desk_register.specs.Looked.{IsDue, IsDuePairAfter, IsFirstOpposite, IsOppositeAt}
 use Rattle.sql_entries.specs.Opposites.{IsNextOpposite, IsOppositeEntry}
-use Rattle.sql_standings.specs.Standings.{IsNextMatched}
+use Rattle.sql_rows.specs.Standings.{IsNextMatched}
 use Rattle.sql_tables.specs.Ends.{ForCause, IfSound, IsLater, IsLook}
 use Rattle.sql_tables.proofs.LookLemmas.{look_err, look_then}
 use Rattle.sql_register.specs.Content.{content_in}

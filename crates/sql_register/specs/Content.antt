@@ -3,9 +3,9 @@ use Rattle.std.specs.Prelude.{map, unwrap_or}
 use Rattle.sqlite.specs.Effect.{Database}
 use Rattle.desk_codes.specs.Currency.{letters_of}
 use Rattle.desk_rules.specs.Content.{Content}
-use Rattle.sql_amounts.specs.declared.key.Ledger.TheVariants.{Balance, Cash}
-use Rattle.sql_amounts.specs.Amounts.{amount_in}
-use Rattle.sql_standings.specs.Standings.{standing_in}
+use Rattle.sql_rows.specs.declared.amounts.key.Ledger.TheVariants.{Balance, Cash}
+use Rattle.sql_rows.specs.Amounts.{amount_in}
+use Rattle.sql_rows.specs.Standings.{standing_in}
 use Rattle.sql_register.specs.RowsSaid.{kept_in, sent_in}
 
 abbrev pub content_in : Database → Content

@@ -14,12 +14,12 @@ use Rattle.desk_rules.specs.Standing.{no_standing}
 use Rattle.desk_rules.specs.WellFormed.{AreWellFormed}
 use Rattle.desk_register.specs.Looked.{held_cash_of, held_of, IsPaid}
 use Rattle.desk_register.specs.declared.holding.Holding.{Holding}
-use Rattle.sql_amounts.specs.declared.key.Ledger.TheVariants.{Total}
-use Rattle.sql_amounts.specs.Amounts.{AreAmounts, amount_in}
+use Rattle.sql_rows.specs.declared.amounts.key.Ledger.TheVariants.{Total}
+use Rattle.sql_rows.specs.Amounts.{AreAmounts, amount_in}
 use Rattle.sql_entries.specs.Entries.{AreEntries}
 use Rattle.sql_entries.specs.Shown.{HaveShortNumbers}
-use Rattle.sql_sent.specs.Messages.{AreSent, IsSendable}
-use Rattle.sql_standings.specs.Standings.{AreStandings}
+use Rattle.sql_rows.specs.Messages.{AreSent, IsSendable}
+use Rattle.sql_rows.specs.Standings.{AreStandings}
 use Rattle.sql_tables.specs.Schema.{desk_schema}
 use Rattle.sql_register.specs.Content.{content_in}
 use Rattle.desk_register.specs.RegisteredOnce.{AreRegisteredOnce}

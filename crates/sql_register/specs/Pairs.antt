@@ -4,7 +4,7 @@ use Rattle.sqlite.specs.Effect.{Database}
 use Rattle.desk_register.specs.Changes.{standing_both}
 use Rattle.desk_rules.specs.declared.history.standing.State.{State}
 use Rattle.desk_rules.specs.declared.history.standing.State.TheVariants.{NoInstruction}
-use Rattle.sql_standings.specs.Standings.{AreStandings, StandingsChanged, standing_in}
+use Rattle.sql_rows.specs.Standings.{AreStandings, StandingsChanged, standing_in}
 
 -- both stand so, as each other's mates
 abbrev pub StandBoth : Database → Database → ℕ → ℕ → State → Type 0

@@ -14,8 +14,8 @@ use Rattle.desk_rules.specs.declared.history.entry.Instructed.{Instructed}
 use Rattle.desk_rules.specs.declared.history.pair.Lack.TheVariants.{Securities, Money}
 use Rattle.desk_rules.specs.declared.history.standing.State.{State as Stand}
 use Rattle.desk_rules.specs.declared.history.standing.State.TheVariants.{Matched, Settled}
-use Rattle.sql_amounts.specs.Amounts.{AreAmounts, amount_in}
-use Rattle.sql_amounts.specs.declared.key.Ledger.TheVariants.{Total}
+use Rattle.sql_rows.specs.Amounts.{AreAmounts, amount_in}
+use Rattle.sql_rows.specs.declared.amounts.key.Ledger.TheVariants.{Total}
 use Rattle.sql_tables.specs.Control.{mark_at}
 use Rattle.sql_tables.specs.Ends.{IfSound, IsLater, IsUndone, SaysWhy, SparesOthers}
 use Rattle.sql_tables.specs.Schema.{desk_schema}

@@ -9,7 +9,7 @@ use Rattle.desk_rules.specs.declared.history.standing.State.{State}
 use Rattle.desk_rules.specs.declared.history.standing.State.TheVariants.{Unmatched}
 use Rattle.desk_register.specs.Looked.{IsDue}
 use Rattle.sql_entries.specs.Opposites.{IsNextOpposite}
-use Rattle.sql_standings.specs.Standings.{IsNextMatched}
+use Rattle.sql_rows.specs.Standings.{IsNextMatched}
 use Rattle.sql_register.specs.Content.{content_in}
 
 abbrev pub is_unmatched : State → Bool

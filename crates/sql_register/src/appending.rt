@@ -2,8 +2,8 @@
 ghost use Rattle.std.specs.Prelude.{◌≡◌, ℕ, ◌+◌, ◌-◌, ◌<◌, ◌≤◌, ◌^◌, List, length, None, IfOk, IsOk, OnOk};
 ghost use Rattle.desk_rules.specs.declared.answers.reply.Kept.{Kept};
 ghost use Rattle.desk_rules.specs.declared.history.entry.Entry.TheVariants.{Cancel, Instruct, Issue, PayIn, PayOut, Redeem};
-ghost use Rattle.sql_amounts.specs.Amounts.{AreAmounts};
-ghost use Rattle.sql_amounts.specs.Changes.{SetsAmount, had};
+ghost use Rattle.sql_rows.specs.Amounts.{AreAmounts};
+ghost use Rattle.sql_rows.specs.Changes.{SetsAmount, had};
 ghost use Rattle.desk_rules.specs.History.{number_of_key, reference_of, sender_of};
 ghost use Rattle.desk_rules.specs.WellFormed.{AreWellFormed, IsWellFormed};
 ghost use Rattle.sql_entries.specs.Entries.{AreEntries, EntryAdded, entries_in};
@@ -18,9 +18,8 @@ use crate::numbers::checked;
 use desk_codes::{Bic, Isin};
 use desk_msg::CancelOrder;
 use desk_rules::{Entry, Instructed, Movement, Payment, Reply, Sender, well_formed};
-use sql_amounts::{AmountKey, put, take};
 use sql_entries::{add_entry, entry_count, number_of};
-use sql_standings::standings::{add_standing, ask};
+use sql_rows::{AmountKey, add_standing, ask, put, take};
 use sql_tables::values::CORRUPT;
 use sqlite::{Alter, Connection, Error};
 

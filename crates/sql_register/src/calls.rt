@@ -12,8 +12,7 @@ use sql_entries::{
     entry_at, entry_count, is_participant, kind_of, last_run, number_of, owner_of, reply_at,
     security_after,
 };
-use sql_sent::{confirmation_of, sent_at, sent_count};
-use sql_standings::standings::standing;
+use sql_rows::{confirmation_of, sent_at, sent_count, standing};
 use sql_tables::control;
 use sqlite::Alter;
 use std::alloc::Global;

@@ -7,7 +7,7 @@ ghost use Rattle.sql_tables.specs.Calls.{FailsForCause, Soundly, Writes, tables}
 
 use crate::numbers::checked;
 use desk_rules::State;
-use sql_standings::standings::set_state;
+use sql_rows::set_state;
 use sqlite::{Alter, Connection, Error};
 
 /// Lets an unmatched instruction stand cancelled.

@@ -12,8 +12,8 @@ ghost use Rattle.sql_tables.specs.Calls.{FailsForCause, Looks, Soundly, tables};
 use desk_codes::{AccountId, Bic, Ccy, Isin};
 use desk_register::Holding;
 use desk_rules::{Entry, Instructed};
-use sql_amounts::{AmountKey, amount, next_holding};
 use sql_entries::entry_at;
+use sql_rows::{AmountKey, amount, next_holding};
 use sql_tables::values::CORRUPT;
 use sqlite::{Alter, Connection, Error};
 use std::alloc::Global;
@@ -55,7 +55,7 @@ pub fn held<S: Alter>(conn: &mut Connection<S>, isin: Isin) -> Result<u64, Error
     ensures look { Looks S.Store conn.old conn.new result }
     ensures blame { Soundly S.Store conn.old conn.new (IsDesk (tables S.Store conn.old) → FailsForCause S.Store conn.old conn.new result) }
 {
-    sql_amounts::held(conn, isin)
+    sql_rows::held(conn, isin)
 }
 
 /// What was paid in of a currency less what was paid out, in minor units; None before any pay in.
@@ -73,7 +73,7 @@ pub fn held_cash<S: Alter>(conn: &mut Connection<S>, ccy: Ccy) -> Result<u64, Er
     ensures look { Looks S.Store conn.old conn.new result }
     ensures blame { Soundly S.Store conn.old conn.new (IsDesk (tables S.Store conn.old) → FailsForCause S.Store conn.old conn.new result) }
 {
-    sql_amounts::held_cash(conn, ccy)
+    sql_rows::held_cash(conn, ccy)
 }
 
 fn holding_of(found: Option<(Isin, u64)>) -> Option<Holding>

@@ -1,7 +1,7 @@
 //! Two instructions become a pair, or a pair is cancelled.
 ghost use Rattle.std.specs.Prelude.{◌≢◌, ◌<◌, OnOk};
 ghost use Rattle.desk_register.specs.Changes.{CanCancelPair, CanPair, pair_cancelled, paired};
-ghost use Rattle.sql_standings.specs.Standings.{AreStandings};
+ghost use Rattle.sql_rows.specs.Standings.{AreStandings};
 ghost use Rattle.sql_register.specs.Content.{content_in};
 ghost use Rattle.sql_register.specs.Holds.{Becomes, IsDesk};
 ghost use Rattle.sql_register.specs.Pairs.{StandAlready, StandBoth};
@@ -10,7 +10,7 @@ ghost use Rattle.sql_tables.specs.Calls.{FailsForCause, Soundly, Writes, tables}
 use crate::numbers::in_order;
 use desk_msg::Reason;
 use desk_rules::State;
-use sql_standings::standings::set_standing;
+use sql_rows::set_standing;
 use sqlite::{Alter, Connection, Error};
 
 /// Lets two instructions stand so, as each other's mates.

@@ -1,13 +1,13 @@
 //! A message is added to those that were sent.
 ghost use Rattle.std.specs.Prelude.{OnOk};
 ghost use Rattle.desk_register.specs.Changes.{CanSend, with_sent};
-ghost use Rattle.sql_sent.specs.Messages.{IsSendable};
+ghost use Rattle.sql_rows.specs.Messages.{IsSendable};
 ghost use Rattle.sql_register.specs.Content.{content_in};
 ghost use Rattle.sql_register.specs.Holds.{Becomes, IsDesk};
 ghost use Rattle.sql_tables.specs.Calls.{FailsForCause, Soundly, Writes, tables};
 
 use desk_rules::Sent;
-use sql_sent::add_sent;
+use sql_rows::add_sent;
 use sqlite::{Alter, Connection, Error};
 
 /// A message is one that the desk may send.

@@ -10,7 +10,7 @@ ghost use Rattle.sql_entries.specs.Opposites.{IsNextOpposite};
 ghost use Rattle.sql_register.specs.Content.{content_in};
 ghost use Rattle.sql_register.specs.Holds.{IsDesk};
 ghost use Rattle.sql_register.specs.Walking.{is_unmatched, sooner, IsDueAt, IsPairAbove, IsCandidateAbove};
-ghost use Rattle.sql_standings.specs.Standings.{IsNextMatched};
+ghost use Rattle.sql_rows.specs.Standings.{IsNextMatched};
 ghost use Rattle.sql_tables.specs.Calls.{FailsForCause, Looks, Soundly, tables};
 
 use crate::looking::instruction;
@@ -18,7 +18,7 @@ use desk_codes::{Bic, Day};
 use desk_msg::Instruction;
 use desk_rules::{Instructed, MOST_ENTRIES, Place, Standing, State};
 use sql_entries::next_opposite;
-use sql_standings::standings::{next_matched, standing};
+use sql_rows::{next_matched, standing};
 use sql_tables::values::CORRUPT;
 use sqlite::{Alter, Connection, Error};
 use std::alloc::Global;

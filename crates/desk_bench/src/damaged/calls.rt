@@ -3,18 +3,19 @@
 use crate::damaged::keys::Keys;
 use desk_codes::Ccy;
 use desk_rules::{Sender, State};
-use sql_amounts::{AmountKey, amount, held, held_cash, next_holding};
 use sql_entries::{
     entry_at, entry_count, is_participant, kind_of, last_run, next_opposite, number_of, owner_of,
     reply_at, security_after,
 };
-use sql_sent::{confirmation_of, sent_at, sent_count};
-use sql_standings::standings::{next_matched, standing};
+use sql_rows::{
+    AmountKey, amount, confirmation_of, held, held_cash, next_holding, next_matched, sent_at,
+    sent_count, standing,
+};
 use sql_tables::version::version;
 use sqlite::{Alter, Connection, Error};
 use std::alloc::Global;
 
-/// Of `sql_amounts`: `amount` of a key of each kind, and the others.
+/// Of the amounts of `sql_rows`: `amount` of a key of each kind, and the others.
 #[derive(Clone, Copy)]
 pub enum AmountCall {
     Balance,
@@ -49,14 +50,14 @@ pub enum FindingCall {
     NextOpposite,
 }
 
-/// Of `sql_standings`.
+/// Of the standings of `sql_rows`.
 #[derive(Clone, Copy)]
 pub enum InstructionCall {
     Standing,
     NextMatched,
 }
 
-/// Of `sql_sent`, and the version of `sql_tables`.
+/// Of the sent messages of `sql_rows`, and the version of `sql_tables`.
 #[derive(Clone, Copy)]
 pub enum MessageCall {
     SentAt,

@@ -12,9 +12,7 @@ ghost use Rattle.sql_tables.specs.Audits.{Audits, AuditsForCause, Consults};
 ghost use Rattle.desk_file.specs.Audited.{SaysRest};
 
 use desk_register::{Messages, Stage};
-use sql_amounts::has_amounts;
-use sql_sent::has_sent;
-use sql_standings::has_standings;
+use sql_rows::{has_amounts, has_sent, has_standings};
 use sql_tables::fault::AuditFault;
 use sqlite::{Alter, Connection};
 use std::alloc::Global;

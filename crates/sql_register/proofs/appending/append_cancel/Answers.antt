@@ -12,7 +12,7 @@ use Rattle.desk_rules.specs.declared.history.entry.Sender.TheVariants.{Participa
 use Rattle.desk_rules.specs.declared.answers.reply.Reply.{Reply}
 use Rattle.desk_rules.specs.Content.{history_of}
 use Rattle.desk_rules.specs.History.{number_of_key}
-use Rattle.sql_standings.specs.Standings.{StandingsChanged, standing_in, AreStandings}
+use Rattle.sql_rows.specs.Standings.{StandingsChanged, standing_in, AreStandings}
 use Rattle.sql_tables.specs.Ends.{Stays, ForCause}
 use Rattle.sql_tables.proofs.CallLemmas.{look_write, write_err, write_then, later_then}
 use Rattle.sql_register.specs.Content.{content_in}

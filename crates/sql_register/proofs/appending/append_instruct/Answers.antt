@@ -7,7 +7,7 @@ use Rattle.desk_register.specs.Changes.{CanAppend, appended, standing_at}
 use Rattle.desk_rules.specs.declared.history.entry.Entry.TheVariants.{Instruct}
 use Rattle.desk_rules.specs.declared.history.entry.Instructed.{Instructed}
 use Rattle.desk_rules.specs.declared.answers.reply.Reply.{Reply}
-use Rattle.sql_standings.specs.Standings.{StandingsChanged, fresh_standing, standing_in}
+use Rattle.sql_rows.specs.Standings.{StandingsChanged, fresh_standing, standing_in}
 use Rattle.sql_tables.specs.Ends.{Stays, ForCause}
 use Rattle.sql_register.specs.Content.{content_in}
 use Rattle.sql_register.specs.Holds.{Becomes, IsDesk}

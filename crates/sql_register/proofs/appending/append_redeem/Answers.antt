@@ -3,8 +3,8 @@ use Rattle.std.proofs.lemmas.Result.{err_from_is_err_and}
 use Rattle.sqlite.specs.Held.{state}
 use Rattle.sqlite.specs.State.{State, HasCleanDisk}
 use Rattle.sqlite.specs.declared.error.Error.{Error}
-use Rattle.sql_amounts.specs.Changes.{SetsAmount, had}
-use Rattle.sql_amounts.specs.declared.key.AmountKey.TheVariants.{Security as SecurityTotal}
+use Rattle.sql_rows.specs.Changes.{SetsAmount, had}
+use Rattle.sql_rows.specs.declared.amounts.key.AmountKey.TheVariants.{Security as SecurityTotal}
 use Rattle.sql_register.specs.Appending.{RowAdded}
 use Rattle.desk_register.specs.Changes.{CanAppend, appended}
 use Rattle.desk_rules.specs.declared.history.entry.Entry.TheVariants.{Redeem}
@@ -18,7 +18,7 @@ use Rattle.sql_register.proofs.AppendedRow.{row_added}
 use Rattle.sql_tables.proofs.CallLemmas.{later_then, write_err, write_then}
 use Rattle.sql_tables.proofs.ResultLemmas.{on_error}
 use Rattle.sql_register.proofs.CauseLemmas.{caused_error, caused_from, wrote, wrote_then}
-use Rattle.sql_amounts.specs.declared.key.AmountKey.TheVariants as keys
+use Rattle.sql_rows.specs.declared.amounts.key.AmountKey.TheVariants as keys
 use Rattle.sql_register.proofs.appending.append_redeem.Goals as goal
 
 becomes : (old d1 d2 new : State) (m : Movement) (reply : Reply) (room : ℕ) (r : Result (Unit {0}) Error) → (desk : IsDesk old.now) → (can : CanAppend room (Redeem m) reply (content_in old.now)) → RowAdded old.now d1.now (content_in old.now).register (Redeem m) reply

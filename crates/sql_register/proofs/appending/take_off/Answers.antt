@@ -1,8 +1,8 @@
 use Rattle.std.proofs.Common.{Bool, arith, subst}
 use Rattle.sqlite.specs.Held.{state}
-use Rattle.sql_amounts.specs.Amounts.{amount_at}
-use Rattle.sql_amounts.specs.Changes.{Takes}
-use Rattle.sql_amounts.proofs.AmountLemmas.{short_less}
+use Rattle.sql_rows.specs.Amounts.{amount_at}
+use Rattle.sql_rows.specs.Changes.{Takes}
+use Rattle.sql_rows.proofs.AmountLemmas.{short_less}
 use Rattle.sql_register.proofs.appending.take_off.Goals as goal
 
 pub returns-else-branch-clause-blame : goal.returns-else-branch-clause-blame

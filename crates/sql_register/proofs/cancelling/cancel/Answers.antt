@@ -4,7 +4,7 @@ use Rattle.sqlite.specs.State.{State}
 use Rattle.sqlite.specs.declared.error.Error.{Error}
 use Rattle.desk_register.specs.Changes.{CanCancel, cancelled, standing_at}
 use Rattle.desk_rules.specs.declared.history.standing.State.TheVariants.{Cancelled, NoInstruction, Unmatched}
-use Rattle.sql_standings.specs.Standings.{StandingsChanged, standing_in}
+use Rattle.sql_rows.specs.Standings.{StandingsChanged, standing_in}
 use Rattle.sql_tables.specs.Ends.{Stays}
 use Rattle.sql_register.specs.Content.{content_in}
 use Rattle.sql_register.specs.Holds.{Becomes, IsDesk}

@@ -3,7 +3,7 @@ use Rattle.sqlite.specs.Held.{state}
 use Rattle.sqlite.specs.State.{HasCleanDisk}
 use Rattle.sql_register.proofs.BothContent.{stands_both}
 use Rattle.desk_rules.specs.declared.history.standing.State.TheVariants.{NoInstruction}
-use Rattle.sql_standings.specs.Standings.{AreStandings, standing_in}
+use Rattle.sql_rows.specs.Standings.{AreStandings, standing_in}
 use Rattle.sql_register.proofs.CauseLemmas.{caused_from, wrote}
 use Rattle.sql_register.proofs.PairCauses.{later_still}
 use Rattle.sql_register.proofs.pairing.stand_both.Goals as goal

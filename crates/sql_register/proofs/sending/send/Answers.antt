@@ -5,7 +5,7 @@ use Rattle.sqlite.specs.declared.error.Error.{Error}
 use Rattle.desk_register.specs.Changes.{with_sent}
 use Rattle.desk_rules.specs.declared.answers.reply.Sent.{Sent}
 use Rattle.desk_rules.specs.declared.limits.TheConstants.{MOST_SENT}
-use Rattle.sql_sent.specs.Messages.{Adds, IsSendable}
+use Rattle.sql_rows.specs.Messages.{Adds, IsSendable}
 use Rattle.sql_tables.specs.Ends.{Stays}
 use Rattle.sql_register.specs.Content.{content_in}
 use Rattle.sql_register.specs.Holds.{Becomes, IsDesk}

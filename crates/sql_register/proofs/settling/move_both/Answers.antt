@@ -2,7 +2,7 @@ use Rattle.std.proofs.Common.{Err, Ok, ℕ, ◌≡◌, ◌∙◌, ap, subst, sym
 use Rattle.sqlite.specs.Effect.{Database}
 use Rattle.sqlite.specs.Held.{state}
 use Rattle.desk_register.specs.Changes.{SidesFit}
-use Rattle.sql_amounts.specs.Amounts.{AreAmounts}
+use Rattle.sql_rows.specs.Amounts.{AreAmounts}
 use Rattle.sql_tables.specs.Ends.{ForCause, IfSound}
 use Rattle.sql_tables.proofs.ResultLemmas.{on_error}
 use Rattle.sql_register.specs.Content.{content_in}

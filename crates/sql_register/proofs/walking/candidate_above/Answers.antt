@@ -5,7 +5,7 @@ use Rattle.desk_rules.specs.Content.{history_of}
 use Rattle.desk_rules.specs.declared.history.standing.Standing.{Standing}
 use Rattle.desk_rules.specs.declared.history.entry.Instructed.{Instructed}
 use Rattle.sql_entries.specs.Opposites.{IsNextOpposite}
-use Rattle.sql_standings.specs.Standings.{standing_in}
+use Rattle.sql_rows.specs.Standings.{standing_in}
 use Rattle.sql_tables.specs.Ends.{ForCause}
 use Rattle.sql_tables.proofs.ResultLemmas.{on_error}
 use Rattle.sql_register.specs.Content.{content_in}

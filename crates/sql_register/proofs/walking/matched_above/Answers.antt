@@ -1,5 +1,5 @@
 use Rattle.sqlite.specs.Held.{state}
-use Rattle.sql_standings.specs.Standings.{IsNextMatched}
+use Rattle.sql_rows.specs.Standings.{IsNextMatched}
 use Rattle.sql_tables.specs.Ends.{ForCause}
 use Rattle.sql_tables.proofs.ResultLemmas.{no_error, on_error}
 use Rattle.sql_register.proofs.WalkLemmas.{matched_within, on_same}

@@ -5,7 +5,7 @@ use Rattle.sqlite.specs.State.{HasCleanDisk}
 use Rattle.desk_codes.specs.Number.{number_of}
 use Rattle.desk_rules.specs.Content.{history_of}
 use Rattle.desk_rules.specs.History.{instruction_at}
-use Rattle.sql_standings.specs.Standings.{IsNextMatched}
+use Rattle.sql_rows.specs.Standings.{IsNextMatched}
 use Rattle.sql_tables.specs.Ends.{ForCause}
 use Rattle.sql_tables.proofs.ResultLemmas.{on_error}
 use Rattle.sql_register.specs.Content.{content_in}

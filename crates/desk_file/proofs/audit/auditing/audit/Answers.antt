@@ -7,7 +7,7 @@ use Rattle.sql_tables.specs.Ends.{IsSame}
 use Rattle.sql_tables.specs.Schema.{desk_schema}
 use Rattle.sql_tables.specs.Forms.{AreAllFormed}
 use Rattle.sql_tables.specs.Order.{AreInOrder}
-use Rattle.sql_amounts.proofs.WalkLemmas.{cause_on}
+use Rattle.sql_rows.proofs.AmountWalkLemmas.{cause_on}
 use Rattle.sql_tables.specs.Audits.{of_tables}
 use Rattle.sql_tables.proofs.LookLemmas.{look_none, look_ok, look_then}
 use Rattle.desk_file.proofs.HandedLemmas.{blame_none, blame_told, cause_told, done_none, later_none, look_told, no_answer, not_done}

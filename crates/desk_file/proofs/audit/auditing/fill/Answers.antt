@@ -8,7 +8,7 @@ use Rattle.sql_tables.specs.Schema.{desk_schema}
 use Rattle.sql_tables.specs.Forms.{AreAllFormed}
 use Rattle.sql_tables.specs.Order.{AreInOrder}
 use Rattle.sql_tables.proofs.LookLemmas.{look_more}
-use Rattle.sql_amounts.proofs.WalkLemmas.{cause_failed}
+use Rattle.sql_rows.proofs.AmountWalkLemmas.{cause_failed}
 use Rattle.desk_file.specs.declared.audit.register.Reading.{Reading}
 use Rattle.desk_file.specs.declared.audit.rest.Table.{Table}
 use Rattle.desk_file.specs.Reading.{HoldsFormed}

@@ -7,7 +7,7 @@ use Rattle.sql_tables.specs.Ends.{IsSame}
 use Rattle.sql_tables.specs.Schema.{desk_schema, register_table}
 use Rattle.sql_tables.specs.Forms.{HasForm}
 use Rattle.sql_tables.proofs.LookLemmas.{look_more, look_none}
-use Rattle.sql_amounts.proofs.WalkLemmas.{cause_failed}
+use Rattle.sql_rows.proofs.AmountWalkLemmas.{cause_failed}
 use Rattle.desk_file.specs.declared.audit.register.Step.{Step}
 use Rattle.sql_tables.specs.declared.compared.TheConstants.{MOST}
 use Rattle.sql_tables.specs.ByNumber.{HasNoOther}

@@ -4,9 +4,9 @@ use Rattle.sqlite.specs.Effect.{Database}
 use Rattle.sqlite.specs.Held.{state}
 use Rattle.sqlite.specs.State.{HasCleanDisk}
 use Rattle.desk_rules.specs.Content.{Content}
-use Rattle.sql_sent.specs.Messages.{AreSent}
-use Rattle.sql_amounts.specs.Said.{HasAmounts, HasReadable}
-use Rattle.sql_amounts.proofs.WalkLemmas.{cause_failed, found_so}
+use Rattle.sql_rows.specs.Messages.{AreSent}
+use Rattle.sql_rows.specs.Said.{HasAmounts, HasReadable}
+use Rattle.sql_rows.proofs.AmountWalkLemmas.{cause_failed, found_so}
 use Rattle.desk_register.specs.View.{HasRead}
 use Rattle.sql_tables.specs.Ends.{HasLooked, IsSame}
 use Rattle.sql_tables.specs.Schema.{desk_schema}

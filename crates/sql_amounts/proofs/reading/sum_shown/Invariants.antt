@@ -1,7 +1,0 @@
-use Rattle.std.proofs.Common.{◌≡◌, take, sum_by}
-use Rattle.sql_amounts.specs.Held.{number_shown}
-use Rattle.sql_amounts.proofs.reading.sum_shown.Given as goal
-
--- the numbers so far are added up
-abbrev pub invariant-loop-row : goal.invariant-loop-row
-invariant-loop-row l = l.sum ≡ sum_by number_shown (take l.row-index l.rows)

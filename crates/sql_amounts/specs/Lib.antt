@@ -1,9 +1,0 @@
-pub mod Keys
-pub mod Statements
-pub mod Amounts
-pub mod Changes
-pub mod Holdings
-pub mod Held
-pub mod Recorded
-pub mod Said
-pub mod Shown

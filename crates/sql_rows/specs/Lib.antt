@@ -1,0 +1,13 @@
+pub mod Keys
+pub mod AmountStatements
+pub mod Amounts
+pub mod Changes
+pub mod Holdings
+pub mod Held
+pub mod Recorded
+pub mod Said
+pub mod Shown
+pub mod Standings
+pub mod StandingsTold
+pub mod Messages
+pub mod SentTold
