@@ -21,7 +21,7 @@ use Rattle.desk_register.specs.View.{HasRead, View, IsRead}
 use Rattle.desk_register.specs.declared.fault.WalkFault.{WalkFault}
 use Rattle.desk_register.proofs.ReadLemmas.{kept_so}
 use Rattle.desk_register.proofs.ReadingLemmas.{read_on}
-use Rattle.journal_rows.specs.declared.journal.MessageKey.{MessageKey}
+use Rattle.desk_journal.specs.declared.rows.journal.MessageKey.{MessageKey}
 use Rattle.desk_journal.specs.Counting.{AreCounted, AreKeyed, CountsMore, IsNoticeAt, bic_cmp}
 use Rattle.desk_journal.specs.Messages.{keys_after, keys_of}
 use Rattle.desk_journal.specs.Sending.{HoldNotices, HoldsBooks, HoldsInstruction, type_told}

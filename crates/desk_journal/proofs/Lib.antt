@@ -1,12 +1,16 @@
 pub mod CauseLemmas
+pub mod ConfirmationLemmas
 pub mod CountingLemmas
 pub mod KeyLemmas
 pub mod KnownLemmas
 pub mod NotingLemmas
+mod NumberLemmas
+pub mod NumeralLemmas
 pub mod PieceLemmas
 pub mod PlaceLemmas
 pub mod RangeLemmas
 pub mod ReplyLemmas
+pub mod RunLemmas
 pub mod SendingLemmas
 pub mod SettledLemmas
 pub mod SettledRunLemmas

@@ -8,7 +8,7 @@ use Rattle.desk_rules.specs.Books.{AreBooks, Books}
 use Rattle.desk_rules.specs.Sent.{notices_of, sent_of, told_by}
 use Rattle.desk_rules.proofs.SentFronts.{flat-append, range-append}
 use Rattle.desk_rules.proofs.SentNumbers.{all_known, sent_length}
-use Rattle.journal_rows.specs.declared.journal.MessageKey.{MessageKey}
+use Rattle.desk_journal.specs.declared.rows.journal.MessageKey.{MessageKey}
 use Rattle.desk_journal.specs.Messages.{keys_after, keys_of, messages_of, sent_upto}
 use Rattle.desk_journal.specs.Sending.{IsSending}
 use Rattle.desk_journal.specs.declared.sending.Sending.{Sending}

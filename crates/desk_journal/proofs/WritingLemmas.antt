@@ -25,10 +25,10 @@ use Rattle.desk_book.specs.RowByRow.{WritesSome, WritesText, WritesWhole}
 use Rattle.desk_book.specs.Sums.{rows_text}
 use Rattle.desk_report.specs.RowWritten.{WritesRow}
 use Rattle.desk_report.proofs.NumberedLemmas.{RowsWritten, handed_on, none_written, one_written, rows_front, rows_whole}
-use Rattle.journal_rows.specs.JournalData.{journal_data}
-use Rattle.journal_rows.specs.declared.journal.JournalRow.{JournalRow}
-use Rattle.journal_rows.specs.declared.journal.MessageKey.{MessageKey}
-use Rattle.journal_rows.specs.declared.journal.Outcome.{Outcome}
+use Rattle.desk_journal.specs.JournalData.{journal_data}
+use Rattle.desk_journal.specs.declared.rows.journal.JournalRow.{JournalRow}
+use Rattle.desk_journal.specs.declared.rows.journal.MessageKey.{MessageKey}
+use Rattle.desk_journal.specs.declared.rows.journal.Outcome.{Outcome}
 use Rattle.desk_journal.specs.Journal.{data_of, journal_of, row_from, row_of}
 use Rattle.desk_journal.specs.Messages.{messages_of}
 use Rattle.desk_journal.specs.Outcomes.{outcome_of}

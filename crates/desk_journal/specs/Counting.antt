@@ -9,7 +9,7 @@ use Rattle.desk_rules.specs.declared.answers.reply.Sent.{Sent}
 use Rattle.desk_rules.specs.Books.{Books}
 use Rattle.desk_rules.specs.Sent.{notices_of, sent_of}
 use Rattle.desk_journal.specs.Messages.{keys_after}
-use Rattle.journal_rows.specs.declared.journal.MessageKey.{MessageKey}
+use Rattle.desk_journal.specs.declared.rows.journal.MessageKey.{MessageKey}
 
 -- a key was counted once more, and now so often
 pub record CountsMore {K : Type 0} (cmp : K → K → Ordering) (old : BTreeMap K ℕ) (key : K) (now : ℕ) (new : BTreeMap K ℕ) : Type 0 where

@@ -10,8 +10,8 @@ use Rattle.desk_rules.specs.Books.{Books}
 use Rattle.desk_rules.specs.History.{entry_at}
 use Rattle.desk_journal.specs.Messages.{messages_of}
 use Rattle.desk_journal.specs.Outcomes.{outcome_of}
-use Rattle.journal_rows.specs.JournalData.{journal_data}
-use Rattle.journal_rows.specs.declared.journal.JournalRow.{JournalRow}
+use Rattle.desk_journal.specs.JournalData.{journal_data}
+use Rattle.desk_journal.specs.declared.rows.journal.JournalRow.{JournalRow}
 
 -- the row of the entry of a number
 abbrev pub row_of : Books → ℕ → Entry → JournalRow

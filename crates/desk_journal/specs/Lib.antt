@@ -1,7 +1,9 @@
 pub mod Counting
 pub mod Journal
+pub mod JournalData
 pub mod Messages
 pub mod Outcomes
 pub mod Runs
 pub mod Sending
+pub mod Words
 pub mod Writing

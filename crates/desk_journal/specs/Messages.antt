@@ -4,7 +4,7 @@ use Rattle.std.specs.List.{flat_map, range_with_len}
 use Rattle.desk_rules.specs.declared.answers.reply.Sent.{Sent}
 use Rattle.desk_rules.specs.Books.{Books}
 use Rattle.desk_rules.specs.Sent.{sent_of, told_by}
-use Rattle.journal_rows.specs.declared.journal.MessageKey.{MessageKey}
+use Rattle.desk_journal.specs.declared.rows.journal.MessageKey.{MessageKey}
 
 -- a message, by its number among those that were sent to its addressee: one more than were sent to it before
 abbrev pub key_after : List Sent → Sent → MessageKey

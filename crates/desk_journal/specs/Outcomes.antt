@@ -10,8 +10,8 @@ use Rattle.desk_rules.specs.Settlement.{settled_count}
 use Rattle.desk_rules.specs.Standing.{state_of}
 use Rattle.desk_rules.specs.Verdict.{named_by}
 use Rattle.desk_journal.specs.Runs.{day_of_number, left_waiting, settled_in}
-use Rattle.journal_rows.specs.declared.journal.Outcome.{Outcome}
-use Rattle.journal_rows.specs.declared.journal.Outcome.TheVariants as outcomes
+use Rattle.desk_journal.specs.declared.rows.journal.Outcome.{Outcome}
+use Rattle.desk_journal.specs.declared.rows.journal.Outcome.TheVariants as outcomes
 
 -- an instruction, by its state
 abbrev pub instructed_outcome : Books → ℕ → State → Outcome

@@ -9,7 +9,7 @@ use Rattle.desk_register.specs.declared.fault.WalkFault.TheVariants.{Sink}
 use Rattle.desk_rules.specs.Books.{Books}
 use Rattle.desk_book.specs.Sums.{rows_text}
 use Rattle.desk_journal.specs.Journal.{data_of, journal_of}
-use Rattle.journal_rows.specs.declared.journal.JournalRow.{JournalRow}
+use Rattle.desk_journal.specs.declared.rows.journal.JournalRow.{JournalRow}
 
 -- A row was written where there is one, behind a comma where rows stand before it, and it is told whether any row stands there
 -- now. Where it broke off nothing was written, but by a writer that failed: of it nothing is said.

@@ -12,12 +12,12 @@ ghost use Rattle.desk_journal.specs.Counting.{AreKeyed, CountsMore, IsNoticeAt};
 ghost use Rattle.desk_journal.specs.Messages.{keys_of};
 ghost use Rattle.desk_journal.specs.Sending.{HoldNotices, HoldsBooks, HoldsInstruction, type_told};
 
+use crate::rows::journal::MessageKey;
 use crate::sending::add;
 use desk_codes::Bic;
 use desk_msg::{Mt, SinkFault};
 use desk_register::{Fault, Register, Stage, WalkFault};
 use desk_rules::{Instructed, Notice};
-use journal_rows::MessageKey;
 use std::alloc::{AllocError, Global};
 use std::collections::BTreeMap;
 

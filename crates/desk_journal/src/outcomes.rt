@@ -12,6 +12,7 @@ ghost use Rattle.desk_journal.specs.Outcomes.{cancel_outcome, instructed_outcome
 ghost use Rattle.desk_journal.specs.Runs.{settled_in};
 ghost use Rattle.desk_journal.specs.Sending.{HoldsBooks, HoldsEntry};
 
+use crate::rows::journal::Outcome;
 use crate::runs::{counts_of_run, day_of_run};
 use crate::sending::confirmed_place;
 use desk_codes::Bic;
@@ -19,7 +20,6 @@ use desk_engine::instruction_named;
 use desk_msg::CancelOrder;
 use desk_register::{Fault, Register, Stage};
 use desk_rules::{Entry, Notice, State};
-use journal_rows::Outcome;
 use std::alloc::Global;
 
 /// The run that settled an instruction; None where it is not settled.

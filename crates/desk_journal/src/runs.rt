@@ -7,10 +7,10 @@ ghost use Rattle.desk_register.specs.View.{IfTrusted, IsRead};
 ghost use Rattle.desk_journal.specs.Runs.{day_of_number, day_of_run, left_waiting};
 ghost use Rattle.desk_journal.specs.Sending.{HoldsRun};
 
+use crate::texts::run::run_counts;
 use desk_codes::Day;
 use desk_register::{Fault, Register, Stage};
 use desk_rules::Entry;
-use journal_texts::run_counts;
 use std::alloc::Global;
 
 /// How many pairs a run settled, and how many due ones it left, as its reply tells. A store that holds no such reply does not

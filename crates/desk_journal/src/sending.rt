@@ -12,12 +12,12 @@ ghost use Rattle.desk_register.specs.Ends.{at_register};
 ghost use Rattle.desk_journal.specs.Messages.{sent_upto};
 ghost use Rattle.desk_journal.specs.Sending.{HoldsBooks, HoldsEntry, IsPlaceOf, advice_if, blank, known_upto, told_upto};
 
+use crate::rows::journal::MessageKey;
 use crate::runs::counts_of_run;
+use crate::texts::confirmation::message_number;
 use desk_msg::SinkFault;
 use desk_register::{Fault, Register, Stage, WalkFault};
 use desk_rules::{Entry, Notice, State};
-use journal_rows::MessageKey;
-use journal_texts::message_number;
 use std::alloc::Global;
 
 /// What the entries caused to be sent.

@@ -16,13 +16,14 @@ ghost use Rattle.desk_journal.specs.Writing.{AreRowsText, WritesIf};
 
 use crate::keys::add_keys;
 use crate::outcomes::outcome;
+use crate::rows::journal::{JournalRow, MessageKey};
+use crate::rows::writing::write_journal_row;
 use crate::sending::{Sending, note_all_settled, note_entries};
 use desk_book::write_text;
 use desk_msg::SinkFault;
 use desk_register::{Register, Stage, WalkFault};
 use desk_report::Format;
 use desk_streams::Sink;
-use journal_rows::{JournalRow, MessageKey, write_journal_row};
 use std::alloc::Global;
 use std::collections::BTreeMap;
 

@@ -4,7 +4,7 @@ use Rattle.desk_msg.specs.MessageType.{number_of_type}
 use Rattle.desk_msg.specs.Profile.{code_of_kind}
 use Rattle.desk_report.specs.RowData.{amount_data, ccy_data, number_data}
 use Rattle.desk_report.proofs.ObjectLemmas.{member_told, number_told, text_told, value_told}
-use Rattle.journal_rows.proofs.json.instruct_value.Goals as goal
+use Rattle.desk_journal.proofs.rows.json.instruct_value.Goals as goal
 
 pub returns : goal.returns
 returns c =

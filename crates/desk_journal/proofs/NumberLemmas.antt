@@ -11,11 +11,11 @@ use Rattle.desk_rules.specs.declared.history.entry.Sender.{Sender}
 use Rattle.desk_rules.specs.declared.history.entry.Sender.TheVariants.{Operator, Participant as FromParticipant}
 use Rattle.desk_rules.specs.History.{sender_of}
 use Rattle.desk_report.specs.RowData.{amount_data, ccy_data, number_data, or_null}
-use Rattle.journal_rows.specs.JournalData.{command_data, instruct_data, journal_data, key_data, outcome_data, sender_data}
-use Rattle.journal_rows.specs.declared.journal.JournalRow.{JournalRow}
-use Rattle.journal_rows.specs.declared.journal.MessageKey.{MessageKey}
-use Rattle.journal_rows.specs.declared.journal.Outcome.{Outcome}
-use Rattle.journal_rows.specs.declared.journal.Outcome.TheVariants.{Booked, Unmatched, Matched, Settled, Cancelled, CancelDone, CancelWaits, CancelLate, Ran}
+use Rattle.desk_journal.specs.JournalData.{command_data, instruct_data, journal_data, key_data, outcome_data, sender_data}
+use Rattle.desk_journal.specs.declared.rows.journal.JournalRow.{JournalRow}
+use Rattle.desk_journal.specs.declared.rows.journal.MessageKey.{MessageKey}
+use Rattle.desk_journal.specs.declared.rows.journal.Outcome.{Outcome}
+use Rattle.desk_journal.specs.declared.rows.journal.Outcome.TheVariants.{Booked, Unmatched, Matched, Settled, Cancelled, CancelDone, CancelWaits, CancelLate, Ran}
 
 number_known : (number : Option ℕ) → has_float (or_null number_data number) ≡ false
 number_known None = refl

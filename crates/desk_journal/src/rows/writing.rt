@@ -2,11 +2,11 @@
 ghost use Rattle.std.specs.Prelude.{◌≡◌, true, Ok, Err};
 ghost use Rattle.desk_register.specs.Ends.{at_register};
 ghost use Rattle.desk_report.specs.RowWritten.{WritesRow};
-ghost use Rattle.journal_rows.specs.JournalData.{journal_data};
+ghost use Rattle.desk_journal.specs.JournalData.{journal_data};
 
-use crate::journal::{JournalRow, MessageKey};
-use crate::json::journal_json;
-use crate::text::journal_text;
+use crate::rows::journal::{JournalRow, MessageKey};
+use crate::rows::json::journal_json;
+use crate::rows::text::journal_text;
 use desk_book::{write_row, write_text};
 use desk_msg::SinkFault;
 use desk_register::WalkFault;

@@ -19,10 +19,10 @@ use Rattle.desk_rules.specs.declared.history.entry.Sender.TheVariants.{Operator,
 use Rattle.desk_rules.specs.History.{reference_of, sender_of}
 use Rattle.desk_book.specs.Command.{text_member, number_member}
 use Rattle.desk_report.specs.RowData.{amount_data, ccy_data, number_data, or_null}
-use Rattle.journal_rows.specs.declared.journal.JournalRow.{JournalRow}
-use Rattle.journal_rows.specs.declared.journal.MessageKey.{MessageKey}
-use Rattle.journal_rows.specs.declared.journal.Outcome.{Outcome}
-use Rattle.journal_rows.specs.declared.journal.Outcome.TheVariants.{Booked, Unmatched, Matched, Settled, Cancelled, CancelDone, CancelWaits, CancelLate, Ran}
+use Rattle.desk_journal.specs.declared.rows.journal.JournalRow.{JournalRow}
+use Rattle.desk_journal.specs.declared.rows.journal.MessageKey.{MessageKey}
+use Rattle.desk_journal.specs.declared.rows.journal.Outcome.{Outcome}
+use Rattle.desk_journal.specs.declared.rows.journal.Outcome.TheVariants.{Booked, Unmatched, Matched, Settled, Cancelled, CancelDone, CancelWaits, CancelLate, Ran}
 
 -- a message that was sent
 abbrev pub key_data : MessageKey → Data

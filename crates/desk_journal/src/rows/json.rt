@@ -4,9 +4,9 @@ ghost use Rattle.serde_json.specs.Data.{array, string};
 ghost use Rattle.serde_json.specs.View.{view, items_of};
 ghost use Rattle.serde_json.specs.Written.{compact_text};
 ghost use Rattle.desk_report.specs.RowData.{or_null};
-ghost use Rattle.journal_rows.specs.JournalData.{account_data, cancel_data, command_data, instruct_data, journal_data, key_data, movement_data, order_data, outcome_data, participant_data, payment_data, run_data, security_data, sender_data, state_data};
+ghost use Rattle.desk_journal.specs.JournalData.{account_data, cancel_data, command_data, instruct_data, journal_data, key_data, movement_data, order_data, outcome_data, participant_data, payment_data, run_data, security_data, sender_data, state_data};
 
-use crate::journal::{JournalRow, MessageKey, Outcome};
+use crate::rows::journal::{JournalRow, MessageKey, Outcome};
 use desk_codes::{AccountId, Bic, Day, Isin};
 use desk_msg::{CancelOrder, Instruction, Kind, Reason};
 use desk_report::{Object, amount_value, ccy_value, optional_number, reason_code};

@@ -1,8 +1,8 @@
 use Rattle.std.proofs.Common.{◌≡◌, ◌∙◌, decimal, arith, rules}
 use Rattle.std.proofs.lemmas.Fmt.{decimal_is_IsNumeral}
 use Rattle.desk_msg.specs.OwnText.{last_digits}
-use Rattle.journal_texts.proofs.NumeralLemmas.{fifteen_numeral, last_digits-value, numeral_text, parsed}
-use Rattle.journal_texts.proofs.digits.number_of.Goals as goal
+use Rattle.desk_journal.proofs.NumeralLemmas.{fifteen_numeral, last_digits-value, numeral_text, parsed}
+use Rattle.desk_journal.proofs.texts.digits.number_of.Goals as goal
 
 pub returns-in_err-ok-clause-fifteen : goal.returns-in_err-ok-clause-fifteen
 returns-in_err-ok-clause-fifteen c n is small = let text = numeral_text c.args.digits.now (last_digits 15 n) is (fifteen_numeral n) in search rules

@@ -8,7 +8,7 @@ use Rattle.std.proofs.lemmas.Bool.Decides.{nat_tests}
 use Rattle.std.proofs.lemmas.List.Splits.{slice_split_at, slice_split_none}
 use Rattle.std.proofs.lemmas.List.Elements.{All-cons, All-nil}
 use Rattle.desk_rules.specs.Reply.{accepted_text}
-use Rattle.journal_texts.specs.Words.{word_at}
+use Rattle.desk_journal.specs.Words.{word_at}
 
 -- A number as `{}` writes it has no space in it, however great it is.
 

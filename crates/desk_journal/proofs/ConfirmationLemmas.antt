@@ -11,7 +11,7 @@ use Rattle.desk_msg.specs.ConfirmationText.{confirmation, confirmation_parts}
 use Rattle.desk_msg.specs.HoldingsPieces.{text_of}
 use Rattle.desk_msg.proofs.PrintableLemmas.{digits-printable}
 use Rattle.desk_msg.proofs.StatusLemmas.{line_before}
-use Rattle.journal_texts.proofs.NumeralLemmas.{length-last_digits}
+use Rattle.desk_journal.proofs.NumeralLemmas.{length-last_digits}
 
 -- up to the number
 abbrev pub beginning : List ℕ

@@ -1,7 +1,7 @@
 //! Rows as lines of aligned text, for people.
 ghost use Rattle.std.specs.Prelude.{◌≤◌};
 
-use crate::journal::{JournalRow, MessageKey, Outcome};
+use crate::rows::journal::{JournalRow, MessageKey, Outcome};
 use desk_codes::{Day, NumberText};
 use desk_msg::{Cash, Instruction, Reason};
 use desk_report::reason_code;

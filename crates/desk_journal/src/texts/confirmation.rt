@@ -3,7 +3,7 @@ ghost use Rattle.std.specs.Prelude.{◌≡◌, ◌<◌, ◌^◌, ℕ, List, Some
 ghost use Rattle.desk_msg.specs.ConfirmationText.{confirmation};
 ghost use Rattle.desk_msg.specs.declared.instruction.Instruction.{Instruction};
 
-use crate::digits::number_of;
+use crate::texts::digits::number_of;
 
 /// What a confirmation begins with, up to the digits of its own reference.
 const BEGINNING: &[u8] = b"{4:\r\n:16R:GENL\r\n:20C::SEME//D";

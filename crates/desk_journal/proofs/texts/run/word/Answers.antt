@@ -1,8 +1,8 @@
 use Rattle.std.proofs.Common.{rules, tests}
 use Rattle.std.proofs.lemmas.Iterator.Consumers.{nth_from_yields_List}
 use Rattle.std.proofs.lemmas.Iterator.Splits.{YieldsList-from_slice_split}
-use Rattle.journal_texts.specs.Words.{word_at}
-use Rattle.journal_texts.proofs.run.word.Goals as goal
+use Rattle.desk_journal.specs.Words.{word_at}
+use Rattle.desk_journal.proofs.texts.run.word.Goals as goal
 
 -- the parts come out one after another
 pub returns : goal.returns

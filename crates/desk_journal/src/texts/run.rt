@@ -2,9 +2,9 @@
 ghost use Rattle.std.specs.Prelude.{◌≡◌, ◌<◌, ◌^◌, ◌++◌, ℕ, Some, codes, decimal};
 ghost use Rattle.std.specs.Option.{option_copied};
 ghost use Rattle.desk_rules.specs.Reply.{accepted_text};
-ghost use Rattle.journal_texts.specs.Words.{word_at};
+ghost use Rattle.desk_journal.specs.Words.{word_at};
 
-use crate::digits::number_of;
+use crate::texts::digits::number_of;
 
 /// Which word of the reply to a run tells how many pairs it settled, from 0.
 const SETTLED: usize = 3;

@@ -1,3 +1,0 @@
-pub mod ConfirmationLemmas
-pub mod NumeralLemmas
-pub mod RunLemmas
