@@ -1,7 +1,10 @@
 mod CatalogueLemmas
+mod ErrorLemmas
 pub mod WritingLemmas
 mod JournalWords
 mod NumberWords
+mod ParserLemmas
 mod PlainWords
 mod ReportWords
+mod WalkWords
 mod WordsLemmas

@@ -13,7 +13,7 @@ use Rattle.clap.specs.declared.builder.value_parser.ValueParser.TheVariants.{Sig
 use Rattle.clap.proofs.ValueTestLemmas.{Accepts-accepts}
 use lib.Signed.{le_z_yes}
 use lib.Dec.{T}
-use Rattle.desk_words.proofs.PlainWords.{is_other, no_dashes, no_long, no_minus, no_short}
+use Rattle.desk_words.proofs.PlainWords.{IsPlain, is_other, no_dashes, no_long, no_minus, no_short}
 
 -- a number that is written in digits begins with no sign, and lies between bounds where it does
 
@@ -60,6 +60,9 @@ pub record IsTaken (high : ℕ) (text : List ℕ) : Type 0 where
   pub short : short_of text ≡ None
   pub plain : without_minus text ≡ text
   pub fits : is_signed_in (pos 1) (pos high) text ≡ true
+
+pub plain_number : {high : ℕ} {text : List ℕ} → IsTaken high text → IsPlain text
+plain_number is = record { dashes = is.dashes; long = is.long; short = is.short }
 
 pub number_taken : (n high : ℕ) → 1 ≤ n → n ≤ high → high < 2 ^ 63 → IsTaken high (decimal n)
 number_taken n high low most small =

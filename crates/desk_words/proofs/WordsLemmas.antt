@@ -15,7 +15,8 @@ use Rattle.clap.specs.declared.error.kind.ErrorKind.{ErrorKind}
 use Rattle.clap.specs.declared.error.kind.ErrorKind.TheVariants.{InvalidValue, OutOfMemory}
 use Rattle.clap.specs.Simple.{Shape, built_leaf, rows_at}
 use Rattle.clap.specs.Takes.{level_passes}
-use Rattle.clap.specs.Walk.{nothing_held}
+use Rattle.clap.specs.Walk.{Walk, nothing_held, walk_from}
+use Rattle.clap.specs.declared.builder.value_parser.Reading.TheVariants.{AsWritten, WithoutMinus}
 use Rattle.clap.specs.Words.{App, HasMatchesOf, IsAmong, Row, Text, fault_of, first_of, first_value, found_of, is_simple, is_simple_and_free, one_of, one_text, rows_of, subcommand_name_of, subcommand_of, subcommand_rows_of, takes}
 use Rattle.clap.proofs.OnLiterals.{clap_on_literals}
 use Rattle.desk_msg.specs.MessageType.{digits_of_type, is_instruction}
@@ -25,9 +26,10 @@ use Rattle.desk_codes.specs.Bic.{IsBic, ReadsBic, party_of}
 use Rattle.desk_rules.proofs.PartLemmas.{bic_itself}
 use Rattle.desk_codes.specs.Characters.{IsCodeChar}
 use Rattle.desk_words.proofs.JournalWords.{enters_journal, takes_journal}
-use Rattle.desk_words.proofs.NumberWords.{IsTaken, no_sign, number_taken}
+use Rattle.desk_words.proofs.NumberWords.{IsTaken, no_sign, number_taken, plain_number}
 use Rattle.desk_words.proofs.PlainWords.{IsPlain, no_dashes, no_long, no_short, plain_word}
 use Rattle.desk_words.proofs.ReportWords.{enters_report, enters_several, one_form, takes_report, takes_several}
+use Rattle.desk_words.proofs.WalkWords.{Walks, behind_option, behind_value, found_at, goes, level, passes_place, passes_value, stands, value_row, walks_place, walks_value}
 use Rattle.desk_words.specs.Words.{ArePartWords, ArePartsOf, CallValue, IsAskable, IsBicText, IsErrorIn, IsFormatOf, IsNoOption, IsNoOptionIn, IsSpelledOut, IsSaid, IsSaidBy, IsSaidIn, IsTypeText, value_of_call, desk_app, IsNumberText, IsTopic, check, explain, holdings, isin, journal, part_words_in, parts_by, play, read, report, report_words, serve, sums, serve_app, words_for, drop_app, folder, holdings_app}
 use Rattle.desk_report.specs.declared.part.Parts.{Parts}
 use Rattle.desk_report.specs.declared.format.Format.{Format}
@@ -67,16 +69,19 @@ takes_isin : (program code : List ℕ) → bytes_eq code (45 ∷ 45 ∷ []) ≡ 
 unfolding clap_on_literals
 takes_isin program code dashes long short = rw (dashes, long, short) refl
 
+not_true : false ≡ true → ⊥
+not_true is = cc
+
 takes_read : (program : List ℕ) (mt : Mt) → is_instruction mt ≡ true → takes desk_app (program ∷ words_for (read mt)) ≡ true
 unfolding clap_on_literals
 takes_read program Mt540 is = refl
 takes_read program Mt541 is = refl
 takes_read program Mt542 is = refl
 takes_read program Mt543 is = refl
-takes_read program Mt544 is = cc
-takes_read program Mt545 is = cc
-takes_read program Mt546 is = cc
-takes_read program Mt547 is = cc
+takes_read program Mt544 is = absurd (not_true is)
+takes_read program Mt545 is = absurd (not_true is)
+takes_read program Mt546 is = absurd (not_true is)
+takes_read program Mt547 is = absurd (not_true is)
 
 takes_play : (program : List ℕ) → takes desk_app (program ∷ words_for (play None)) ≡ true
 unfolding clap_on_literals
@@ -101,9 +106,22 @@ holdings_shape = built_leaf holdings_app.top
 abbrev words_of_account : List ℕ → List ℕ → List ℕ → List (List ℕ)
 words_of_account db bic account = codes "--db" ∷ db ∷ bic ∷ account ∷ []
 
+end_of_account : List ℕ → List ℕ → List ℕ → Walk
+end_of_account db bic account = behind_value (value_row AsWritten (codes "db") db ∷ value_row AsWritten (codes "bic") bic ∷ []) (codes "account") account 3
+
+walks_account : (db bic account : List ℕ) → IsPlain db → IsPlain bic → IsPlain account → Walks holdings_shape (walk_from nothing_held) (words_of_account db bic account) (end_of_account db bic account)
+unfolding clap_on_literals holdings_shape end_of_account
+walks_account db bic account a b c =
+    let file : Walk = behind_value [] (codes "db") db 1 in
+    let party : Walk = behind_value (value_row AsWritten (codes "db") db ∷ []) (codes "bic") bic 2 in
+    goes (behind_option [] (codes "db") 1) refl refl
+    (goes file (passes_value holdings_shape (behind_option [] (codes "db") 1).held (codes "db") db 1 a) (walks_value holdings_shape.rules (behind_option [] (codes "db") 1).held (codes "db") db 1 a)
+    (goes party (passes_place holdings_shape file.held bic 1 b refl) (walks_place holdings_shape.rules file.held bic 1 b)
+    (goes (end_of_account db bic account) (passes_place holdings_shape party.held account 2 c refl) (walks_place holdings_shape.rules party.held account 2 c) stands)))
+
 passes_account : (db bic account : List ℕ) → IsPlain db → IsPlain bic → IsPlain account → level_passes holdings_shape [] nothing_held (words_of_account db bic account) false ≡ true
-unfolding clap_on_literals holdings_shape
-passes_account db bic account a b c = rw (a.dashes, a.long, a.short) (rw (b.dashes, b.long, b.short) (rw (c.dashes, c.long, c.short) refl))
+unfolding clap_on_literals holdings_shape end_of_account
+passes_account db bic account a b c = level holdings_shape (words_of_account db bic account) (end_of_account db bic account) (walks_account db bic account a b c) refl
 
 takes_holdings : (program db bic account : List ℕ) → IsPlain db → IsPlain bic → IsPlain account → takes desk_app (program ∷ codes "holdings" ∷ words_of_account db bic account) ≡ true
 unfolding clap_on_literals holdings_shape
@@ -138,25 +156,70 @@ words_without port count = codes "--port" ∷ port ∷ codes "--count" ∷ count
 abbrev words_on : List ℕ → List ℕ → List ℕ → List (List ℕ)
 words_on db port count = codes "--db" ∷ db ∷ codes "--port" ∷ port ∷ codes "--count" ∷ count ∷ []
 
+end_of_service : List ℕ → List ℕ → Walk
+end_of_service port count = behind_value (value_row WithoutMinus (codes "port") port ∷ []) (codes "count") count 1
+
+walks_service : (port count : List ℕ) → IsTaken 65535 port → IsTaken 1000000 count → Walks serve_shape (walk_from nothing_held) (words_without port count) (end_of_service port count)
+unfolding clap_on_literals serve_shape end_of_service
+walks_service port count a b =
+    let asked : Walk = behind_option [] (codes "port") 1 in
+    let counted : Walk = behind_option (value_row WithoutMinus (codes "port") port ∷ []) (codes "count") 1 in
+    goes asked refl refl
+    (goes (behind_value [] (codes "port") port 1) (passes_value serve_shape asked.held (codes "port") port 1 (plain_number a)) (walks_value serve_shape.rules asked.held (codes "port") port 1 (plain_number a))
+    (goes counted (rw a.fits refl) refl
+    (goes (end_of_service port count) (passes_value serve_shape counted.held (codes "count") count 1 (plain_number b)) (walks_value serve_shape.rules counted.held (codes "count") count 1 (plain_number b)) stands)))
+
 passes_service : (port count : List ℕ) → IsTaken 65535 port → IsTaken 1000000 count → level_passes serve_shape [] nothing_held (words_without port count) false ≡ true
-unfolding clap_on_literals serve_shape
-passes_service port count a b = rw (a.dashes, a.long, a.short) (rw a.fits (rw (b.dashes, b.long, b.short) (and_true _ _ (and_true _ _ b.fits refl) refl)))
+unfolding clap_on_literals serve_shape end_of_service
+passes_service port count a b = level serve_shape (words_without port count) (end_of_service port count) (walks_service port count a b) (rw b.fits refl)
 
 takes_service : (program port count : List ℕ) → IsTaken 65535 port → IsTaken 1000000 count → takes desk_app (program ∷ codes "serve" ∷ words_without port count) ≡ true
 unfolding clap_on_literals serve_shape
 takes_service program port count a b = and_true (level_passes serve_shape [] nothing_held (words_without port count) false) _ (passes_service port count a b) refl
 
+end_of_service_on : List ℕ → List ℕ → List ℕ → Walk
+end_of_service_on db port count = behind_value (value_row AsWritten (codes "db") db ∷ value_row WithoutMinus (codes "port") port ∷ []) (codes "count") count 1
+
+walks_service_on : (db port count : List ℕ) → IsPlain db → IsTaken 65535 port → IsTaken 1000000 count → Walks serve_shape (walk_from nothing_held) (words_on db port count) (end_of_service_on db port count)
+unfolding clap_on_literals serve_shape end_of_service_on
+walks_service_on db port count f a b =
+    let named : Walk = behind_option [] (codes "db") 1 in
+    let asked : Walk = behind_option (value_row AsWritten (codes "db") db ∷ []) (codes "port") 1 in
+    let counted : Walk = behind_option (value_row AsWritten (codes "db") db ∷ value_row WithoutMinus (codes "port") port ∷ []) (codes "count") 1 in
+    goes named refl refl
+    (goes (behind_value [] (codes "db") db 1) (passes_value serve_shape named.held (codes "db") db 1 f) (walks_value serve_shape.rules named.held (codes "db") db 1 f)
+    (goes asked refl refl
+    (goes (behind_value (value_row AsWritten (codes "db") db ∷ []) (codes "port") port 1) (passes_value serve_shape asked.held (codes "port") port 1 (plain_number a)) (walks_value serve_shape.rules asked.held (codes "port") port 1 (plain_number a))
+    (goes counted (rw a.fits refl) refl
+    (goes (end_of_service_on db port count) (passes_value serve_shape counted.held (codes "count") count 1 (plain_number b)) (walks_value serve_shape.rules counted.held (codes "count") count 1 (plain_number b)) stands)))))
+
 passes_service_on : (db port count : List ℕ) → IsPlain db → IsTaken 65535 port → IsTaken 1000000 count → level_passes serve_shape [] nothing_held (words_on db port count) false ≡ true
-unfolding clap_on_literals serve_shape
-passes_service_on db port count f a b = rw (f.dashes, f.long, f.short) (rw (a.dashes, a.long, a.short) (rw a.fits (rw (b.dashes, b.long, b.short) (and_true _ _ (and_true _ _ b.fits refl) refl))))
+unfolding clap_on_literals serve_shape end_of_service_on
+passes_service_on db port count f a b = level serve_shape (words_on db port count) (end_of_service_on db port count) (walks_service_on db port count f a b) (rw b.fits refl)
 
 takes_service_on : (program db port count : List ℕ) → IsPlain db → IsTaken 65535 port → IsTaken 1000000 count → takes desk_app (program ∷ codes "serve" ∷ words_on db port count) ≡ true
 unfolding clap_on_literals serve_shape
 takes_service_on program db port count f a b = and_true (level_passes serve_shape [] nothing_held (words_on db port count) false) _ (passes_service_on db port count f a b) refl
 
+end_of_folder : List ℕ → List ℕ → List ℕ → Walk
+end_of_folder db from to = behind_value (value_row AsWritten (codes "db") db ∷ value_row AsWritten (codes "in") from ∷ []) (codes "out") to 1
+
+walks_folder : (db from to : List ℕ) → IsPlain db → IsPlain from → IsPlain to → Walks drop_shape (walk_from nothing_held) (words_of_folder db from to) (end_of_folder db from to)
+unfolding clap_on_literals drop_shape end_of_folder
+walks_folder db from to f a b =
+    let named : Walk = behind_option [] (codes "db") 1 in
+    let coming : Walk = behind_option (value_row AsWritten (codes "db") db ∷ []) (codes "in") 1 in
+    let going : Walk = behind_option (value_row AsWritten (codes "db") db ∷ value_row AsWritten (codes "in") from ∷ []) (codes "out") 1 in
+    goes named refl refl
+    (goes (behind_value [] (codes "db") db 1) (passes_value drop_shape named.held (codes "db") db 1 f) (walks_value drop_shape.rules named.held (codes "db") db 1 f)
+    (goes coming refl refl
+    (goes (behind_value (value_row AsWritten (codes "db") db ∷ []) (codes "in") from 1) (passes_value drop_shape coming.held (codes "in") from 1 a) (walks_value drop_shape.rules coming.held (codes "in") from 1 a)
+    (goes going refl refl
+    (goes (end_of_folder db from to) (passes_value drop_shape going.held (codes "out") to 1 b) (walks_value drop_shape.rules going.held (codes "out") to 1 b) stands)))))
+
 passes_folder : (db from to : List ℕ) → IsPlain db → IsPlain from → IsPlain to → level_passes drop_shape [] nothing_held (words_of_folder db from to) false ≡ true
-unfolding clap_on_literals drop_shape
-passes_folder db from to f a b = rw (f.dashes, f.long, f.short) (rw (a.dashes, a.long, a.short) (rw (b.dashes, b.long, b.short) refl))
+unfolding clap_on_literals drop_shape end_of_folder
+passes_folder db from to f a b = level drop_shape (words_of_folder db from to) (end_of_folder db from to) (walks_folder db from to f a b) refl
 
 takes_folder : (program db from to : List ℕ) → IsPlain db → IsPlain from → IsPlain to → takes desk_app (program ∷ codes "drop" ∷ words_of_folder db from to) ≡ true
 unfolding clap_on_literals drop_shape
@@ -198,10 +261,10 @@ enters_read program Mt540 is = (refl, refl, refl)
 enters_read program Mt541 is = (refl, refl, refl)
 enters_read program Mt542 is = (refl, refl, refl)
 enters_read program Mt543 is = (refl, refl, refl)
-enters_read program Mt544 is = cc
-enters_read program Mt545 is = cc
-enters_read program Mt546 is = cc
-enters_read program Mt547 is = cc
+enters_read program Mt544 is = absurd (not_true is)
+enters_read program Mt545 is = absurd (not_true is)
+enters_read program Mt546 is = absurd (not_true is)
+enters_read program Mt547 is = absurd (not_true is)
 
 enters_play : (program : List ℕ) → IsSomeAnd (subcommand_of desk_app (program ∷ words_for (play None))) (λ p. (p.0 ≡ codes "play") × (first_of (codes "db") p.1 ≡ None))
 unfolding clap_on_literals
@@ -215,12 +278,10 @@ enters_play_on program db is = (refl, rw (is.dashes, is.long, is.short) refl)
 rows_of_account : (db bic account : List ℕ) → IsPlain db → IsPlain bic → IsPlain account
     → (first_of (codes "db") (rows_at holdings_shape (words_of_account db bic account)).1 ≡ Some db) × (first_of (codes "bic") (rows_at holdings_shape (words_of_account db bic account)).1 ≡ Some bic)
     × (first_of (codes "account") (rows_at holdings_shape (words_of_account db bic account)).1 ≡ Some account)
-unfolding clap_on_literals holdings_shape
-rows_of_account db bic account a b c = (
-  rw (a.dashes, a.long, a.short) (rw (b.dashes, b.long, b.short) (rw (c.dashes, c.long, c.short) refl)),
-  rw (a.dashes, a.long, a.short) (rw (b.dashes, b.long, b.short) (rw (c.dashes, c.long, c.short) refl)),
-  rw (a.dashes, a.long, a.short) (rw (b.dashes, b.long, b.short) (rw (c.dashes, c.long, c.short) refl)),
-)
+unfolding clap_on_literals holdings_shape end_of_account
+rows_of_account db bic account a b c =
+    let P : List Row → Type 0 = λ rows. (first_of (codes "db") rows ≡ Some db) × (first_of (codes "bic") rows ≡ Some bic) × (first_of (codes "account") rows ≡ Some account) in
+    found_at holdings_shape P (walks_account db bic account a b c) (refl, refl, refl)
 
 enters_holdings : (program db bic account : List ℕ) → IsPlain db → IsPlain bic → IsPlain account
     → IsSomeAnd (subcommand_of desk_app (program ∷ codes "holdings" ∷ words_of_account db bic account))
@@ -254,12 +315,10 @@ enters_number program text is = (refl, rw (is.dashes, is.long, is.short) refl, r
 rows_without : (port count : List ℕ) → IsTaken 65535 port → IsTaken 1000000 count
     → (first_of (codes "db") (rows_at serve_shape (words_without port count)).1 ≡ None) × (one_of (codes "port") (rows_at serve_shape (words_without port count)).1 ≡ Some port)
     × (one_of (codes "count") (rows_at serve_shape (words_without port count)).1 ≡ Some count)
-unfolding clap_on_literals serve_shape
-rows_without port count a b = (
-  rw (a.dashes, a.long, a.short) (rw (b.dashes, b.long, b.short) refl),
-  rw (a.dashes, a.long, a.short) (rw (b.dashes, b.long, b.short) (ap Some a.plain)),
-  rw (a.dashes, a.long, a.short) (rw (b.dashes, b.long, b.short) (ap Some b.plain)),
-)
+unfolding clap_on_literals serve_shape end_of_service
+rows_without port count a b =
+    let P : List Row → Type 0 = λ rows. (first_of (codes "db") rows ≡ None) × (one_of (codes "port") rows ≡ Some port) × (one_of (codes "count") rows ≡ Some count) in
+    found_at serve_shape P (walks_service port count a b) (refl, ap Some a.plain, ap Some b.plain)
 
 enters_service : (program port count : List ℕ) → IsTaken 65535 port → IsTaken 1000000 count
     → IsSomeAnd (subcommand_of desk_app (program ∷ codes "serve" ∷ words_without port count))
@@ -270,12 +329,10 @@ enters_service program port count a b = let rows = rows_without port count a b i
 rows_on : (db port count : List ℕ) → IsPlain db → IsTaken 65535 port → IsTaken 1000000 count
     → (first_of (codes "db") (rows_at serve_shape (words_on db port count)).1 ≡ Some db) × (one_of (codes "port") (rows_at serve_shape (words_on db port count)).1 ≡ Some port)
     × (one_of (codes "count") (rows_at serve_shape (words_on db port count)).1 ≡ Some count)
-unfolding clap_on_literals serve_shape
-rows_on db port count f a b = (
-  rw (f.dashes, f.long, f.short) (rw (a.dashes, a.long, a.short) (rw (b.dashes, b.long, b.short) refl)),
-  rw (f.dashes, f.long, f.short) (rw (a.dashes, a.long, a.short) (rw (b.dashes, b.long, b.short) (ap Some a.plain))),
-  rw (f.dashes, f.long, f.short) (rw (a.dashes, a.long, a.short) (rw (b.dashes, b.long, b.short) (ap Some b.plain))),
-)
+unfolding clap_on_literals serve_shape end_of_service_on
+rows_on db port count f a b =
+    let P : List Row → Type 0 = λ rows. (first_of (codes "db") rows ≡ Some db) × (one_of (codes "port") rows ≡ Some port) × (one_of (codes "count") rows ≡ Some count) in
+    found_at serve_shape P (walks_service_on db port count f a b) (refl, ap Some a.plain, ap Some b.plain)
 
 enters_service_on : (program db port count : List ℕ) → IsPlain db → IsTaken 65535 port → IsTaken 1000000 count
     → IsSomeAnd (subcommand_of desk_app (program ∷ codes "serve" ∷ words_on db port count))
@@ -286,12 +343,10 @@ enters_service_on program db port count f a b = let rows = rows_on db port count
 rows_of_folder : (db from to : List ℕ) → IsPlain db → IsPlain from → IsPlain to
     → (first_of (codes "db") (rows_at drop_shape (words_of_folder db from to)).1 ≡ Some db) × (first_of (codes "in") (rows_at drop_shape (words_of_folder db from to)).1 ≡ Some from)
     × (first_of (codes "out") (rows_at drop_shape (words_of_folder db from to)).1 ≡ Some to)
-unfolding clap_on_literals drop_shape
-rows_of_folder db from to f a b = (
-  rw (f.dashes, f.long, f.short) (rw (a.dashes, a.long, a.short) (rw (b.dashes, b.long, b.short) refl)),
-  rw (f.dashes, f.long, f.short) (rw (a.dashes, a.long, a.short) (rw (b.dashes, b.long, b.short) refl)),
-  rw (f.dashes, f.long, f.short) (rw (a.dashes, a.long, a.short) (rw (b.dashes, b.long, b.short) refl)),
-)
+unfolding clap_on_literals drop_shape end_of_folder
+rows_of_folder db from to f a b =
+    let P : List Row → Type 0 = λ rows. (first_of (codes "db") rows ≡ Some db) × (first_of (codes "in") rows ≡ Some from) × (first_of (codes "out") rows ≡ Some to) in
+    found_at drop_shape P (walks_folder db from to f a b) (refl, refl, refl)
 
 enters_folder : (program db from to : List ℕ) → IsPlain db → IsPlain from → IsPlain to
     → IsSomeAnd (subcommand_of desk_app (program ∷ codes "drop" ∷ words_of_folder db from to))
@@ -607,6 +662,45 @@ module _ (asked : CallValue) (name : List ℕ) (f : Found) where
   pub same_type : (found : Mt) → name ≡ codes "read" → ((mt : Mt) → is_instruction mt ≡ true → one_text f (codes "mt") ≡ Some (digits_of_type mt) → found ≡ mt)
       → IsSpelledOut asked name (rows_of f) → read found ≡ asked
   same_type found is one named = let n = named_read is named in ap read (one n.0 n.3 n.2) ∙ sym n.1
+
+-- nothing is said where nothing was found
+pub none_said : {X : Type 0} (found : Option X) (P : X → Type 0) → found ≡ None → IfSome found P
+none_said found P none = rw none tt
+
+-- `check` has no other words
+pub same_check : (asked : CallValue) (name : List ℕ) (rows : List Row) → name ≡ codes "check" → IsSpelledOut asked name rows → check ≡ asked
+same_check asked name rows is spelled = go asked spelled
+  where
+    go : (a : CallValue) → IsSpelledOut a name rows → check ≡ a
+    go (isin code) h = let bad : 105 ≡ 99 = ap (λ t. slice_index t 0) (sym h.0 ∙ is) in absurd (omega (arith, bad))
+    go (read mt) h = let bad : 114 ≡ 99 = ap (λ t. slice_index t 0) (sym h.0 ∙ is) in absurd (omega (arith, bad))
+    go (play db) h = let bad : 112 ≡ 99 = ap (λ t. slice_index t 0) (sym h.0 ∙ is) in absurd (omega (arith, bad))
+    go check h = refl
+    go (explain Catalogue) h = let bad : 101 ≡ 99 = ap (λ t. slice_index t 0) (sym h.0 ∙ is) in absurd (omega (arith, bad))
+    go (explain (Number number)) h = let bad : 101 ≡ 99 = ap (λ t. slice_index t 0) (sym h.0 ∙ is) in absurd (omega (arith, bad))
+    go (serve db port count) h = let bad : 115 ≡ 99 = ap (λ t. slice_index t 0) (sym h.0 ∙ is) in absurd (omega (arith, bad))
+    go (holdings db bic account) h = let bad : 104 ≡ 99 = ap (λ t. slice_index t 0) (sym h.0 ∙ is) in absurd (omega (arith, bad))
+    go (sums db) h = let bad : 115 ≡ 99 = ap (λ t. slice_index t 0) (sym h.0 ∙ is) in absurd (omega (arith, bad))
+    go (report db parts format) h = let bad : 114 ≡ 99 = ap (λ t. slice_index t 0) (sym h.0 ∙ is) in absurd (omega (arith, bad))
+    go (journal db from format) h = let bad : 106 ≡ 99 = ap (λ t. slice_index t 0) (sym h.0 ∙ is) in absurd (omega (arith, bad))
+    go (folder db from to) h = let bad : 100 ≡ 99 = ap (λ t. slice_index t 0) (sym h.0 ∙ is) in absurd (omega (arith, bad))
+
+-- nothing is asked for by another word
+pub no_word : (asked : CallValue) (name : List ℕ) (rows : List Row)
+    → (name ≡ codes "isin" → ⊥) → (name ≡ codes "read" → ⊥) → (name ≡ codes "play" → ⊥) → (name ≡ codes "check" → ⊥) → (name ≡ codes "explain" → ⊥) → (name ≡ codes "serve" → ⊥) → (name ≡ codes "holdings" → ⊥) → (name ≡ codes "sums" → ⊥) → (name ≡ codes "report" → ⊥) → (name ≡ codes "journal" → ⊥) → (name ≡ codes "drop" → ⊥)
+    → IsSpelledOut asked name rows → ⊥
+no_word (isin code) name rows other _ _ _ _ _ _ _ _ _ _ named = other named.0
+no_word (read mt) name rows _ other _ _ _ _ _ _ _ _ _ named = other named.0
+no_word (play db) name rows _ _ other _ _ _ _ _ _ _ _ named = other named.0
+no_word check name rows _ _ _ other _ _ _ _ _ _ _ named = other named
+no_word (explain Catalogue) name rows _ _ _ _ other _ _ _ _ _ _ named = other named.0
+no_word (explain (Number number)) name rows _ _ _ _ other _ _ _ _ _ _ named = other named.0
+no_word (serve db port count) name rows _ _ _ _ _ other _ _ _ _ _ named = other named.0
+no_word (holdings db bic account) name rows _ _ _ _ _ _ other _ _ _ _ named = other named.0
+no_word (sums db) name rows _ _ _ _ _ _ _ other _ _ _ named = other named.0
+no_word (report db parts format) name rows _ _ _ _ _ _ _ _ other _ _ named = other named.0
+no_word (journal db from format) name rows _ _ _ _ _ _ _ _ _ other _ named = other named.0
+no_word (folder db from to) name rows _ _ _ _ _ _ _ _ _ _ other named = other named.0
 
 -- what the words of `holdings` name
 pub held_by : (asked : CallValue) (f : Found) → IsSpelledOut asked (codes "holdings") (rows_of f)

@@ -2,7 +2,7 @@ use Rattle.std.proofs.Common.{sym, subst}
 use Rattle.std.specs.Prelude.{IfSome}
 use Rattle.clap.specs.Words.{found_of, rows_of}
 use Rattle.desk_words.specs.Words.{IsSaid, IsSpelledOut, value_of_call}
-use Rattle.desk_words.proofs.WordsLemmas.{no_code, no_sums, no_topic, no_type, said_code, said_sums, said_topic, said_type, same_code, same_sums, same_topic, same_type}
+use Rattle.desk_words.proofs.WordsLemmas.{no_code, no_sums, no_topic, no_type, no_word, none_said, said_code, said_sums, said_topic, said_type, same_check, same_code, same_sums, same_topic, same_type}
 use Rattle.desk_words.proofs.calls.subcommand_call.Goals as goal
 
 pub returns-in_err-get_str-in-isin-clause-asked : goal.returns-in_err-get_str-in-isin-clause-asked
@@ -77,3 +77,77 @@ returns-in-drop-clause-said c = subst (λ n. IfSome c.folder_call.result (λ cal
 
 pub returns-in-drop-clause-asked : goal.returns-in-drop-clause-asked
 returns-in-drop-clause-asked c = λ asked named. c.folder_call.ensures.asked asked (subst (λ n. IsSpelledOut asked n (rows_of (found_of c.args.inner.now))) c.in-drop.is named)
+
+pub returns-in_err-get_str-in-isin-clause-readable : goal.returns-in_err-get_str-in-isin-clause-readable
+returns-in_err-get_str-in-isin-clause-readable c = none_said c.from_residual.result _ c.from_residual.ensures
+
+pub returns-in_err-get_str-in-isin-clause-said : goal.returns-in_err-get_str-in-isin-clause-said
+returns-in_err-get_str-in-isin-clause-said c = none_said c.from_residual.result _ c.from_residual.ensures
+
+pub returns-in_err-type_in-in-read-clause-readable : goal.returns-in_err-type_in-in-read-clause-readable
+returns-in_err-type_in-in-read-clause-readable c = none_said c.from_residual-in_err-type_in-in-read.result _ c.from_residual-in_err-type_in-in-read.ensures
+
+pub returns-in_err-type_in-in-read-clause-said : goal.returns-in_err-type_in-in-read-clause-said
+returns-in_err-type_in-in-read-clause-said c = none_said c.from_residual-in_err-type_in-in-read.result _ c.from_residual-in_err-type_in-in-read.ensures
+
+pub returns-in_err-topic_in-in-explain-clause-readable : goal.returns-in_err-topic_in-in-explain-clause-readable
+returns-in_err-topic_in-in-explain-clause-readable c = none_said c.from_residual-in_err-topic_in-in-explain.result _ c.from_residual-in_err-topic_in-in-explain.ensures
+
+pub returns-in_err-topic_in-in-explain-clause-said : goal.returns-in_err-topic_in-in-explain-clause-said
+returns-in_err-topic_in-in-explain-clause-said c = none_said c.from_residual-in_err-topic_in-in-explain.result _ c.from_residual-in_err-topic_in-in-explain.ensures
+
+pub returns-in_err-get_str-in-sums-clause-readable : goal.returns-in_err-get_str-in-sums-clause-readable
+returns-in_err-get_str-in-sums-clause-readable c = none_said c.from_residual-in_err-get_str-in-sums.result _ c.from_residual-in_err-get_str-in-sums.ensures
+
+pub returns-in_err-get_str-in-sums-clause-said : goal.returns-in_err-get_str-in-sums-clause-said
+returns-in_err-get_str-in-sums-clause-said c = none_said c.from_residual-in_err-get_str-in-sums.result _ c.from_residual-in_err-get_str-in-sums.ensures
+
+pub returns-in_ok-get_str-in-isin-clause-readable : goal.returns-in_ok-get_str-in-isin-clause-readable
+returns-in_ok-get_str-in-isin-clause-readable c = tt
+
+pub returns-in-check-clause-readable : goal.returns-in-check-clause-readable
+returns-in-check-clause-readable c = tt
+
+pub returns-in_ok-topic_in-in-explain-clause-readable : goal.returns-in_ok-topic_in-in-explain-clause-readable
+returns-in_ok-topic_in-in-explain-clause-readable c = tt
+
+pub returns-in_ok-get_str-in-sums-clause-readable : goal.returns-in_ok-get_str-in-sums-clause-readable
+returns-in_ok-get_str-in-sums-clause-readable c = tt
+
+pub returns-in_default-clause-readable : goal.returns-in_default-clause-readable
+returns-in_default-clause-readable c = tt
+
+pub returns-in_default-clause-said : goal.returns-in_default-clause-said
+returns-in_default-clause-said c = tt
+
+pub returns-in_ok-type_in-in-read-clause-readable : goal.returns-in_ok-type_in-in-read-clause-readable
+returns-in_ok-type_in-in-read-clause-readable c = c.in_ok-type_in-in-read.ensures.right
+
+pub returns-in-play-clause-readable : goal.returns-in-play-clause-readable
+returns-in-play-clause-readable c = c.play_call.ensures.readable
+
+pub returns-in-serve-clause-readable : goal.returns-in-serve-clause-readable
+returns-in-serve-clause-readable c = c.serve_call.ensures.readable
+
+pub returns-in-holdings-clause-readable : goal.returns-in-holdings-clause-readable
+returns-in-holdings-clause-readable c = c.holdings_call.ensures.readable
+
+pub returns-in-report-clause-readable : goal.returns-in-report-clause-readable
+returns-in-report-clause-readable c = c.report_call.ensures.readable
+
+pub returns-in-journal-clause-readable : goal.returns-in-journal-clause-readable
+returns-in-journal-clause-readable c = c.journal_call.ensures.readable
+
+pub returns-in-drop-clause-readable : goal.returns-in-drop-clause-readable
+returns-in-drop-clause-readable c = c.folder_call.ensures.readable
+
+pub returns-in-check-clause-said : goal.returns-in-check-clause-said
+returns-in-check-clause-said c = c.in-check.is
+
+pub returns-in-check-clause-asked : goal.returns-in-check-clause-asked
+returns-in-check-clause-asked c = λ asked named. same_check asked c.args.name.now (rows_of (found_of c.args.inner.now)) c.in-check.is named
+
+pub returns-in_default-clause-asked : goal.returns-in_default-clause-asked
+returns-in_default-clause-asked c = λ asked named.
+    let others = c.in_default in
+    no_word asked c.args.name.now (rows_of (found_of c.args.inner.now)) others.not-isin others.not-read others.not-play others.not-check others.not-explain others.not-serve others.not-holdings others.not-sums others.not-report others.not-journal others.not-drop named
