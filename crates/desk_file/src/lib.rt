@@ -36,6 +36,7 @@ mod tables;
 mod taking;
 mod version;
 
+pub use audit::auditing::{Audited, audit as audit_tables};
 pub use audit::progress::{Progress, Silent};
 pub use audit::rest::Table;
 pub use fault::{Difference, OpenFault};
@@ -43,5 +44,5 @@ pub use files::open_in_order;
 pub use laws::{found_again, is_desk_by_parts, is_live};
 pub use mirror::mirrored_register::MirroredRegister;
 pub use opening::{adopt, open_file};
-pub use schema::ours::has_desk_tables;
+pub use schema::ours::{has_desk_tables, is_desk};
 pub use tables::{adopt_tables, open_tables};

@@ -22,4 +22,6 @@ mod sending;
 mod texts;
 mod walk;
 
+pub use texts::confirmation::message_number;
+pub use texts::run::run_counts;
 pub use walk::write_journal;

@@ -26,8 +26,12 @@ mod rows;
 mod sums;
 mod unmatched;
 
+pub use accounts::write_accounts;
+pub use cash::write_cash;
 pub use format::Format;
 pub use laws::{nearest_differs, one_accounts, one_pending};
 pub use part::{Part, Parts};
+pub use pending::walk::write_pending;
 pub use report::write_report;
 pub use rows::object::{Object, amount_value, ccy_value, optional_number, reason_code};
+pub use unmatched::walk::write_unmatched;
