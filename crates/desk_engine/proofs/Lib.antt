@@ -14,6 +14,7 @@ mod PassLemmas
 mod PassSteps
 mod PassWhole
 mod RefusalLemmas
+mod RebuildLemmas
 mod ReplayLemmas
 mod ReplyLemmas
 mod SendingLemmas

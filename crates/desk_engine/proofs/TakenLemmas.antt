@@ -41,7 +41,7 @@ refused limit books entry verdict why is that accepted = absurd (let same : Acce
 
 -- Over a list, with one entry looked at more.
 
-pub take_one : (xs : List Kept) (i : ℕ) (x : Kept) → slice_get xs i ≡ Some x → take (suc i) xs ≡ take i xs ++ x ∷ []
+pub take_one : {X : Type 0} (xs : List X) (i : ℕ) (x : X) → slice_get xs i ≡ Some x → take (suc i) xs ≡ take i xs ++ x ∷ []
 take_one [] i x at = absurd (cc)
 take_one (y ∷ xs) zero x at = let same : y ≡ x = cc in ap (λ z. z ∷ []) same
 take_one (y ∷ xs) (suc i) x at = ap (λ z. y ∷ z) (take_one xs i x at)

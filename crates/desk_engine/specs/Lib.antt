@@ -6,6 +6,7 @@ pub mod Decision
 pub mod KeptHistory
 pub mod Pass
 pub mod Ready
+pub mod Rebuilt
 pub mod Replayed
 pub mod Sending
 pub mod Sound

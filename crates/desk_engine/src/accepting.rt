@@ -25,7 +25,7 @@ pub enum Failure {
 }
 
 /// Takes back what was done, after a fault within a `begin`.
-fn take_back<R: Register>(alloc: Global, register: &mut R, fault: Fault) -> Failure
+pub fn take_back<R: Register>(alloc: Global, register: &mut R, fault: Fault) -> Failure
     requires { (R.view register.old).stage ≢ Stage.Idle }
     ensures recovers { Recovers fault result (R.view register.old).mark (R.view register.old) (R.view register.new) }
     ensures in_memory { R.in_memory ≡ true → result ≢ Failure.Lost }

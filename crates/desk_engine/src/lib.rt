@@ -12,6 +12,10 @@
 //! with the kept one (`same.rt`). `replay`, in `replaying.rt`, takes a list from its first entry on: it answers true exactly
 //! where the list is one that a desk can have kept, and then the register holds it, with all that follows from it.
 //! specs/KeptHistory.antt says what a desk can have kept, and when a register holds it.
+//!
+//! `rebuild`, in `rebuilding.rt`, makes the tables of a history anew, from its entries alone: it takes each in by `apply`, in
+//! its turn and with the reply that it gets, decides on none, and keeps them all at once. specs/Rebuilt.antt says what the
+//! register holds then.
 #![tactic(auto)]
 
 mod accepting;
@@ -23,6 +27,7 @@ mod checks;
 mod decision;
 mod laws;
 mod naming;
+mod rebuilding;
 mod replaying;
 mod replies;
 mod same;
@@ -39,6 +44,7 @@ pub use laws::{
     empty_holds, empty_keeps, held_can_be_kept, held_is_sound, kept_fronts, positions_add_up, sound,
 };
 pub use naming::instruction_named;
+pub use rebuilding::rebuild;
 pub use replaying::replay;
 pub use replies::refused_reply;
 pub use same::same_reply;
