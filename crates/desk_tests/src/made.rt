@@ -1,5 +1,5 @@
 //! A new desk over a register in memory, and what a register tells.
-ghost use Rattle.std.specs.Prelude.{◌≤◌};
+ghost use Rattle.std.specs.Prelude.{◌≡◌, ◌≤◌, IfOk, Ok};
 ghost use Rattle.desk_rules.specs.declared.limits.TheConstants.{MOST_ENTRIES};
 
 use desk_book::Desk;
@@ -15,6 +15,8 @@ pub fn new_desk(alloc: Global, limit: u64) -> Desk<ListRegister>
 }
 
 /// What a register or the engine told. A fault is a failure.
-pub fn given<T: Drop, E: Drop>(told: Result<T, E>) -> Result<T, Fail> {
+pub fn given<T: Drop, E: Drop>(told: Result<T, E>) -> Result<T, Fail>
+    ensures { IfOk result (λ value. told ≡ Ok value) }
+{
     Ok(told.ok().ok_or("a fault")?)
 }

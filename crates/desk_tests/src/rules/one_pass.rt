@@ -20,12 +20,12 @@ fn kept_at(alloc: Global, register: &mut ListRegister, number: u64) -> Result<Ke
     }
 }
 
-/// A run of one pass, with the text of a reply.
-fn run_once(alloc: Global, text: &[u8]) -> Result<Kept, Fail> {
+/// A run, with the text of a reply.
+pub fn run_kept(alloc: Global, key: &[u8], rule: RunRule, text: &[u8]) -> Result<Kept, Fail> {
     let entry = Entry::Run {
-        reference: Reference::read(b"R1").ok_or("no reference")?,
+        reference: Reference::read(key).ok_or("no reference")?,
         day: Day::read(b"20240229").ok_or("no day")?,
-        rule: RunRule::OnePass,
+        rule,
     };
     let text = Text::new(Vec::from_slice(alloc, text)?);
     let reply = Reply {
@@ -44,11 +44,17 @@ fn add_kept(alloc: Global, register: &mut ListRegister, kept: &mut Vec<Kept>) ->
     Ok(())
 }
 
-/// Whether an empty register takes in both deliveries, and a run of one pass behind them with this reply.
-fn is_taken_in(alloc: Global, text: &[u8]) -> Result<bool, Fail> {
+/// Both deliveries, and a run of one pass behind them with this reply.
+pub fn tried_once(alloc: Global, text: &[u8]) -> Result<Vec<Kept>, Fail> {
     let mut kept = Vec::new(alloc);
     add_kept(alloc, &mut played(alloc, UNITS, b"")?, &mut kept)?;
-    kept.push(run_once(alloc, text)?)?;
+    kept.push(run_kept(alloc, b"R1", RunRule::OnePass, text)?)?;
+    Ok(kept)
+}
+
+/// Whether an empty register takes in both deliveries, and a run of one pass behind them with this reply.
+fn is_taken_in(alloc: Global, text: &[u8]) -> Result<bool, Fail> {
+    let kept = tried_once(alloc, text)?;
     let mut register = ListRegister::new(alloc, MOST_ENTRIES);
     given(replay(alloc, &mut register, &kept))
 }
