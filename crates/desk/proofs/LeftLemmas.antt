@@ -1,7 +1,7 @@
 -- What a run leaves of a desk.
-use Rattle.std.proofs.Common.{◌≡◌, ℕ, Bool, false, [], IsTrue, refl, sym, ap, ◌∙◌, subst}
-use Rattle.std.specs.Prelude.{Result, Ok, Err, IfOk}
-use Rattle.sqlite.specs.Files.{file_state}
+use Rattle.std.proofs.Common.{◌≡◌, ℕ, Bool, false, [], IsTrue, Option, refl, sym, ap, ◌∙◌, subst, arith}
+use Rattle.std.specs.Prelude.{is_some, Result, Ok, Err, IfErr, IfOk}
+use Rattle.sqlite.specs.Files.{file_state, IsClosed}
 use Rattle.sqlite.specs.Held.{Held, state}
 use Rattle.sqlite_trees.specs.declared.store.Store.{Ghosts as Stores}
 use Rattle.sqlite.specs.State.{State, HasCleanDisk, IsLive}
@@ -11,7 +11,7 @@ use Rattle.sqlite_store.specs.declared.store.FileStore.{FileStore}
 use Rattle.desk_rules.specs.Books.{Books}
 use Rattle.desk_rules.specs.Content.{Content}
 use Rattle.desk_rules.specs.declared.limits.TheConstants.{MOST_ENTRIES}
-use Rattle.desk_register.specs.View.{View, fallen, IsRead}
+use Rattle.desk_register.specs.View.{View, fallen, IsLater, IsRead}
 use Rattle.desk_register.specs.declared.register.Fault.{Fault}
 use Rattle.desk_register.specs.declared.register.Stage.{Stage}
 use Rattle.desk_register.specs.declared.register.Stage.TheVariants.{Idle}
@@ -20,10 +20,9 @@ use Rattle.sql_register.specs.Kept.{IsKept, Kept}
 use Rattle.memory_register.specs.declared.list_register.ListRegister.{ListRegister}
 use Rattle.desk_file.specs.Both.{Both}
 use Rattle.desk_file.specs.Opened.{view_of_both}
-use Rattle.desk_book.specs.Held.{Holds}
 use Rattle.desk_engine.specs.Ready.{IsReady, KeepsFormed}
 use Rattle.desk.specs.Closed.{AreClosed}
-use Rattle.desk.specs.Left.{AreLeft, AreSaid, IsLeft, LeavesSome, PassesOn, TablesSay}
+use Rattle.desk.specs.Left.{AreLeft, AreSaid, IsCleanBehind, IsLeft, LeavesSome, PassesOn, TablesSay}
 use Rattle.desk.specs.PlayAnswer.{KeptBy}
 
 -- of a connection that was handed on the same is known
@@ -40,19 +39,38 @@ tables_say s stage content books idle kept live same keeps = λ clean is_open.
     record { is = (live is_open).1; content = content; keeps = keeps; tables = record { desk = desk.committed; content_is = sym (same clean is_open ∙ ap content_in (desk.idle idle)) } }
 
 -- what is left of a desk its tables say
-pub said_left : {S : Type 0} (store : Stores S) (gives : Bool) (held : Both ListRegister (Kept S)) (s : State) → (view_of_both store held).room ≡ MOST_ENTRIES → IsReady gives (view_of_both store held)
-    → (held.stage ≡ Idle → (books : Books) → KeptBy (view_of_both store held) books → TablesSay s books) → PassesOn (IsLeft gives (view_of_both store held)) (AreSaid s)
-said_left {S} store gives held s most ready say = record {
-  each = λ is_closed books left stays. say (ready.stage (left.closed ∙ stays)) books (subst (λ k. KeepsFormed k books (view_of_both store held).content) most (left.holds stays));
+pub said_left : {S C : Type 0} (store : Stores S) (mark : Option C) (held : Both ListRegister (Kept S)) (s : State) → (view_of_both store held).room ≡ MOST_ENTRIES → IsReady (is_some mark) (view_of_both store held)
+    → (held.stage ≡ Idle → (books : Books) → KeptBy (view_of_both store held) books → TablesSay s books) → PassesOn (IsLeft (is_some mark) (view_of_both store held)) (AreSaid mark s)
+said_left {S} store mark held s most ready say = record {
+  each = λ is_closed books left. record {
+    closed = left.closed;
+    says = λ stays. say (ready.stage (left.closed ∙ stays)) books (subst (λ k. KeepsFormed k books (view_of_both store held).content) most (left.holds stays));
+  };
 }
 
 -- what the tables say of a connection that was closed its files say
-pub files_say : {D E : Type 0} {g : Ghosts D} (connection : Held (FileStore D g)) (r : Result (Files D) E) → IfOk r (AreClosed connection) → PassesOn (AreSaid (file_state connection)) (AreLeft g r)
-files_say connection (Ok files) closed = record {
-  each = λ is_closed books say stays clean. (let copied = closed clean in
-      record { db = (file_state connection).committed; says = say stays copied.was_clean copied.was_open; seen = copied.seen; left = copied.left });
+pub files_say : {C D E : Type 0} {g : Ghosts D} (mark : Option C) (connection : Held (FileStore D g)) (r : Result (Files D) E) → IfOk r (AreClosed connection) → PassesOn (AreSaid mark (file_state connection)) (AreLeft g mark r)
+files_say mark connection (Ok files) closed = record {
+  each = λ is_closed books said. record {
+    closed = said.closed;
+    says = λ stays clean. (let copied = closed clean in
+        record { db = (file_state connection).committed; says = said.says stays copied.was_clean copied.was_open; seen = copied.seen; left = copied.left });
+  };
 }
-files_say connection (Err e) closed = record { each = λ is_closed books say stays. tt }
+files_say mark connection (Err e) closed = record { each = λ is_closed books said. record { closed = said.closed; says = λ stays. tt } }
+
+-- that no wrong answer of the device was taken as true up to the close, so up to what was before it
+pub clean_before : {D : Type 0} {g : Ghosts D} (connection : Held (FileStore D g)) (r : Result (Files D) (FileStore D g)) → IfOk r (AreClosed connection) → IfErr r (IsClosed connection) → IsCleanBehind r → HasCleanDisk (file_state connection)
+clean_before connection (Ok files) closed unclosed clean = (closed clean).was_clean
+clean_before connection (Err it) closed unclosed clean = (let q = unclosed.quiet.clean in omega (arith, q, clean))
+
+-- that the tables were trusted behind a call, so before it
+pub clean_on : {S : Type 0} (store : Stores S) (old new : Both ListRegister (Kept S)) (connection : Held S) → IsLater (view_of_both store old) (view_of_both store new) → connection ≡ new.tables.connection
+    → HasCleanDisk (state store connection) → HasCleanDisk (state store old.tables.connection)
+clean_on {S} store old new connection later is clean =
+    let Clean : Held S → Type 0 = λ k. HasCleanDisk (state store k) in
+    let now = subst Clean is clean in
+    (later.device_honest (now, now)).0
 
 -- nothing was asked
 pub none_asked : (limit : ℕ) (books : Books) (L : Bool → Books → Type 0) → L false books → LeavesSome limit books L

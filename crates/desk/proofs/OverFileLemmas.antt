@@ -93,14 +93,14 @@ module _ {E : Type 0} (K : Books → Type 0) (L : Bool → Books → Type 0) (do
       (ended_overview has_closed shown books before mid after format done result (from.1.told books keeps) ends.by)
 
   -- and what it left there
-  pub left_in_files : {D F : Type 0} (g : Ghosts D) (it : Job) (closed : Result (Files D) F) → IsDone it K L given U reads done (Appends before mid) → PassesOn L (AreLeft g closed) → Ends (is_ok closed) done result mid after
-      → (books : Books) → K books → LeavesFiles g it result closed books given
-  left_in_files g (job.Ask Play) closed from on ends books keeps = opened_stands K L (AreLeft g closed) done result given U reads before mid from on books keeps
-  left_in_files g (job.Ask (Serve port count)) closed from on ends books keeps = some_left MOST_ENTRIES books L (AreLeft g closed) refl on (from.1.left books keeps)
-  left_in_files g (job.Ask (Take folders)) closed from on ends books keeps = some_left MOST_ENTRIES books L (AreLeft g closed) refl on (from.1.left books keeps)
-  left_in_files g (job.Ask (Tell owner account)) closed from on ends books keeps =
-      opened_left (is_ok closed) K L done result (asked_for owner account.now) before mid after from.1 g closed on ends books keeps
-  left_in_files g (job.Show shown format) closed from on ends books keeps = on.each false books (from.1.left books keeps) refl
+  pub left_in_files : {C D F : Type 0} (g : Ghosts D) (it : Job) (mark : Option C) (closed : Result (Files D) F) → IsDone it K L given U reads done (Appends before mid) → PassesOn L (AreLeft g mark closed) → Ends (is_ok closed) done result mid after
+      → (books : Books) → K books → LeavesFiles g it result mark closed books given
+  left_in_files g (job.Ask Play) mark closed from on ends books keeps = opened_stands K L (AreLeft g mark closed) done result given U reads before mid from on books keeps
+  left_in_files g (job.Ask (Serve port count)) mark closed from on ends books keeps = some_left MOST_ENTRIES books L (AreLeft g mark closed) refl on (from.1.left books keeps)
+  left_in_files g (job.Ask (Take folders)) mark closed from on ends books keeps = some_left MOST_ENTRIES books L (AreLeft g mark closed) refl on (from.1.left books keeps)
+  left_in_files g (job.Ask (Tell owner account)) mark closed from on ends books keeps =
+      opened_left (is_ok closed) K L done result (asked_for owner account.now) before mid after from.1 (AreLeft g mark closed) on ends books keeps
+  left_in_files g (job.Show shown format) mark closed from on ends books keeps = (on.each false books (from.1.left books keeps)).says refl
 
 -- what is told where the file was opened, of the books that were kept there, and where it was not
 module _ {E : Type 0} (given : Option (List ℕ)) (reads : Bool) (P : List ℕ → Type 0) where

@@ -3,8 +3,6 @@ use Rattle.std.proofs.Common.{◌≡◌, ◌∙◌, ℕ, Bool, false, List, ◌+
 use Rattle.std.proofs.KnownBytes.{Appends-trans}
 use Rattle.std.specs.Io.KnownBytes.{Appends}
 use Rattle.std.specs.Prelude.{◌≢◌, Result, Ok, Err, IfOk, IsOkAnd, codes}
-use Rattle.sqlite_disk.specs.declared.Disk.{Ghosts}
-use Rattle.sqlite_disk.specs.declared.Files.{Files}
 use Rattle.desk_register.specs.View.{View}
 use Rattle.desk_rules.specs.Books.{Books}
 use Rattle.desk_rules.specs.declared.limits.TheConstants.{MOST_ENTRIES}
@@ -17,7 +15,7 @@ use Rattle.desk_book.specs.declared.answers.head.Head.{Head}
 use Rattle.desk_book.specs.declared.fault.ToFault.{ToFault}
 use Rattle.desk_book.specs.declared.fault.ToFault.TheVariants as to
 use Rattle.desk_file.specs.Opened.{IsReadyFor}
-use Rattle.desk.specs.Left.{AreLeft, IsLeft, PassesOn}
+use Rattle.desk.specs.Left.{IsLeft, PassesOn}
 use Rattle.desk.specs.PlayAnswer.{AreHeld, KeptBy}
 use Rattle.desk.specs.ReportAnswer.{IsOpenReportAnswer, IsReportFrom, IsReportTold, LeavesBooks, ReportsFrom, told_answer, told_from, told_front, told_unclosed}
 use Rattle.desk.specs.Status.{Ends, EndsBy, failure_line}
@@ -98,13 +96,13 @@ module _ {E : Type 0} (has_closed : Bool) (K : Books → Type 0) (L : Bool → B
       → IfOk result (λ status. IsOpenReportAnswer has_closed books asked status (Appends before after))
   opened_reported ends books keeps = ended_so reported result books (from.told books keeps) ends.by
 
-  leaves_so : {D F : Type 0} (g : Ghosts D) (closed : Result (Files D) F) (told ended : Result Status E) (books : Books) → PassesOn L (AreLeft g closed) → IfOk told (λ status. status ≢ Fault → L false books)
-      → IfOk ended (λ status. IsOkAnd told (λ said. EndsBy has_closed said status (after ≡ mid) (Appends mid after))) → LeavesBooks g ended closed books
-  leaves_so g closed told (Err e) books on left ends = tt
-  leaves_so g closed (Err f) (Ok status) books on left ends = absurd ends
-  leaves_so g closed (Ok said) (Ok status) books on left (inl same) = λ none. on.each false books (left (λ is. none (same.0 ∙ is))) refl
-  leaves_so g closed (Ok said) (Ok status) books on left (inr unclosed) = λ none. absurd (none unclosed.2.0)
+  leaves_so : (M : Bool → Books → Type 0) (told ended : Result Status E) (books : Books) → PassesOn L M → IfOk told (λ status. status ≢ Fault → L false books)
+      → IfOk ended (λ status. IsOkAnd told (λ said. EndsBy has_closed said status (after ≡ mid) (Appends mid after))) → IfOk ended (λ status. status ≢ Fault → M false books)
+  leaves_so M told (Err e) books on left ends = tt
+  leaves_so M (Err f) (Ok status) books on left ends = absurd ends
+  leaves_so M (Ok said) (Ok status) books on left (inl same) = λ none. on.each false books (left (λ is. none (same.0 ∙ is)))
+  leaves_so M (Ok said) (Ok status) books on left (inr unclosed) = λ none. absurd (none unclosed.2.0)
 
-  pub opened_left : {D F : Type 0} (g : Ghosts D) (closed : Result (Files D) F) → PassesOn L (AreLeft g closed) → Ends has_closed reported result mid after
-      → (books : Books) → K books → LeavesBooks g result closed books
-  opened_left g closed on ends books keeps = leaves_so g closed reported result books on (from.stays books keeps) ends.by
+  pub opened_left : (M : Bool → Books → Type 0) → PassesOn L M → Ends has_closed reported result mid after → (books : Books) → K books → LeavesBooks result M books
+  opened_left M on ends books keeps = (let l = from.left books keeps in
+      record { is_closed = l.0; left = on.each l.0 books l.1; stays = leaves_so M reported result books on (from.stays books keeps) ends.by })

@@ -1,14 +1,15 @@
 -- What is done over the desk of a file: what is told of it, and what it leaves.
-use Rattle.std.specs.Prelude.{ℕ, Bool, false, List, Option, Result, IfOk, OnErr}
+use Rattle.std.specs.Prelude.{ℕ, Bool, false, is_ok, List, Option, Result, IfOk, OnErr}
 use Rattle.sqlite_disk.specs.declared.Disk.{Ghosts}
 use Rattle.sqlite_disk.specs.declared.Files.{Files}
+use Rattle.sqlite_wal.specs.Recovery.{Image}
 use Rattle.desk_rules.specs.Books.{Books}
 use Rattle.desk_rules.specs.declared.limits.TheConstants.{MOST_ENTRIES}
 use Rattle.desk_report.specs.declared.format.Format.{Format}
 use Rattle.desk.specs.DropAnswer.{IsDropAnswer, IsFolderEnd, IsOpenDropAnswer}
-use Rattle.desk.specs.Left.{AreLeft, FilesSay, LeavesSome}
+use Rattle.desk.specs.Left.{AreLeft, FilesSay, HeldBooks, IsCleanBehind, LeavesSome}
 use Rattle.desk.specs.OverviewAnswer.{IsFileOverviewAnswer, IsOpenOverviewAnswer, IsOverviewFrom}
-use Rattle.desk.specs.PlayAnswer.{IsFilePlayAnswer, IsOpenPlayAnswer, IsPlayedAnyhow, PlaysFrom}
+use Rattle.desk.specs.PlayAnswer.{AreKept, IsFilePlayAnswer, IsOpenPlayAnswer, IsPlayedAnyhow, PlaysFrom}
 use Rattle.desk.specs.ReportAnswer.{IsOpenReportAnswer, IsReportAnswer, LeavesBooks, ReportsFrom, asked_for}
 use Rattle.desk.specs.ServeAnswer.{IsFileServeAnswer, IsOpenServeAnswer, IsServeAnswer}
 use Rattle.desk.specs.declared.answers.report.Shown.{Shown}
@@ -17,6 +18,7 @@ use Rattle.desk.specs.declared.over_file.Ask.TheVariants.{Play, Serve, Take, Tel
 use Rattle.desk.specs.declared.over_file.Job.{Job}
 use Rattle.desk.specs.declared.over_file.Job.TheVariants as job
 use Rattle.desk.specs.declared.status.Status.{Status}
+use Rattle.desk.specs.declared.store.Behind.{Behind}
 
 -- This was told, and whichever of these books the desk held, some requests, or none, were asked of it one after another.
 pub record AsksSome {E : Type 0} (limit : ℕ) (AreBooks : Books → Type 0) (IsLeftSo : Bool → Books → Type 0) (IsTold : Status → Type 0) (result : Result Status E) : Type 0 where
@@ -49,12 +51,21 @@ IsOpenAnswer (job.Ask (Tell owner account)) has_closed IsLeftSo books given IsUn
 IsOpenAnswer (job.Show shown format) has_closed IsLeftSo books given IsUnread may_fail status IsPrinted = IsUnread × IsOpenOverviewAnswer has_closed shown format books status IsPrinted
 
 -- what is left in its files, where they could be closed
-abbrev pub LeavesFiles : {D F E : Type 0} → Ghosts D → Job → Result Status E → Result (Files D) F → Books → Option (List ℕ) → Type 0
-LeavesFiles g (job.Ask Play) told closed books given = OnErr told (IsPlayedAnyhow (AreLeft g closed) books given)
-LeavesFiles g (job.Ask (Serve port count)) told closed books given = LeavesSome MOST_ENTRIES books (AreLeft g closed)
-LeavesFiles g (job.Ask (Take folders)) told closed books given = LeavesSome MOST_ENTRIES books (AreLeft g closed)
-LeavesFiles g (job.Ask (Tell owner account)) told closed books given = LeavesBooks g told closed books
-LeavesFiles g (job.Show shown format) told closed books given = IfOk closed (λ files. FilesSay g files books)
+abbrev pub LeavesFiles : {C D F E : Type 0} → Ghosts D → Job → Result Status E → Option C → Result (Files D) F → Books → Option (List ℕ) → Type 0
+LeavesFiles g (job.Ask Play) told mark closed books given = OnErr told (IsPlayedAnyhow (AreLeft g mark closed) books given)
+LeavesFiles g (job.Ask (Serve port count)) told mark closed books given = LeavesSome MOST_ENTRIES books (AreLeft g mark closed)
+LeavesFiles g (job.Ask (Take folders)) told mark closed books given = LeavesSome MOST_ENTRIES books (AreLeft g mark closed)
+LeavesFiles g (job.Ask (Tell owner account)) told mark closed books given = LeavesBooks told (AreLeft g mark closed) books
+LeavesFiles g (job.Show shown format) told mark closed books given = IfOk closed (λ files. FilesSay g files books)
+
+-- A job was done over files that held this image, and this is behind it. There are the books of an accepted history that they held, where
+-- no wrong answer of the device was taken as true; by these was told what was told, and of these is what was left.
+pub record IsDoneOver {D E : Type 0} {g : Ghosts D} (image : Image) (it : Job) (behind : Behind D g) (result : Result Status E) (given : Option (List ℕ)) (IsUnread : Type 0) (may_fail : Bool) (IsPrinted : List ℕ → Type 0) : Type 0 where
+  pub books : Books
+  pub kept : AreKept books
+  pub held : IsCleanBehind behind.files → HeldBooks image books
+  pub told : IfOk result (λ status. IsOpenAnswer it (is_ok behind.files) (AreLeft g behind.was_closed behind.files) books given IsUnread may_fail status IsPrinted)
+  pub left : LeavesFiles g it result behind.was_closed behind.files books given
 
 -- what is told, whether the file was opened or not
 abbrev pub IsFileAnswer : Job → Option (List ℕ) → Type 0 → Bool → Status → (List ℕ → Type 0) → Type 0

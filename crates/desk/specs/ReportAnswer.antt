@@ -1,7 +1,5 @@
 -- What is told of what a desk holds: `desk holdings` and `desk sums`.
 use Rattle.std.specs.Prelude.{◌≡◌, ◌≢◌, ◌⊎◌, ◌==◌, ℕ, Bool, true, false, List, [], ◌++◌, Option, Some, None, Result, Ok, Err, IfOk, codes, if◌then◌else◌}
-use Rattle.sqlite_disk.specs.declared.Disk.{Ghosts}
-use Rattle.sqlite_disk.specs.declared.Files.{Files}
 use Rattle.desk_rules.specs.Books.{Books}
 use Rattle.desk_rules.specs.declared.answers.reply.Reply.{Reply}
 use Rattle.desk_rules.specs.declared.limits.TheConstants.{MOST_ENTRIES}
@@ -12,7 +10,6 @@ use Rattle.desk_book.specs.declared.fault.ToFault.TheVariants as to
 use Rattle.desk_book.specs.declared.requests.question.Question.TheVariants as questions
 use Rattle.desk_book.specs.WrittenTo.{reply_with}
 use Rattle.desk_book.specs.declared.answers.head.Head.{Head}
-use Rattle.desk.specs.Left.{FilesSay}
 use Rattle.desk.specs.PlayAnswer.{AreKept}
 use Rattle.desk.specs.Status.{IsMemoryOr, IsUnopened, failure_line}
 use Rattle.desk.specs.declared.status.Failure.{Failure}
@@ -76,6 +73,8 @@ pub data IsReportAnswer (asked : Asked) (status : Status) (IsPrinted : List ℕ 
   told_unopened : IsUnopened status IsPrinted → IsReportAnswer asked status IsPrinted
   told_opened : (books : Books) → AreKept books → (has_closed : Bool) → IsOpenReportAnswer has_closed books asked status IsPrinted → IsReportAnswer asked status IsPrinted
 
--- a report that was told without a fault left its books as they were, in the files, where they could be closed
-abbrev pub LeavesBooks : {D F E : Type 0} → Ghosts D → Result Status F → Result (Files D) E → Books → Type 0
-LeavesBooks g told closed books = IfOk told (λ status. status ≢ Fault → IfOk closed (λ files. FilesSay g files books))
+-- a report left its books as they were, and the desk open where it was told without a fault
+pub record LeavesBooks {E : Type 0} (told : Result Status E) (IsLeftSo : Bool → Books → Type 0) (books : Books) : Type 0 where
+  pub is_closed : Bool
+  pub left : IsLeftSo is_closed books
+  pub stays : IfOk told (λ status. status ≢ Fault → IsLeftSo false books)

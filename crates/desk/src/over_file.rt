@@ -1,25 +1,29 @@
 //! What is done over the desk of a file, which is opened before it, and closed behind it.
-ghost use Rattle.std.specs.Prelude.{◌≡◌, true, false, is_ok, IfErr, IfOk, OnErr};
+ghost use Rattle.std.specs.Prelude.{◌≡◌, true, false, is_ok, is_some, None, IfErr, IfOk, IfSome, OnErr};
 ghost use Rattle.std.specs.Io.KnownBytes.{Appends};
-ghost use Rattle.sqlite.specs.Files.{over_files};
+ghost use Rattle.sqlite.specs.Files.{file_state, over_files};
 ghost use Rattle.sqlite.specs.Held.{state};
+ghost use Rattle.sqlite.specs.State.{HasCleanDisk};
 ghost use Rattle.sqlite_wal.specs.Files.{image_at};
 ghost use Rattle.desk_rules.specs.Books.{Books};
 ghost use Rattle.desk_rules.specs.declared.limits.TheConstants.{MOST_ENTRIES};
 ghost use Rattle.desk_engine.specs.Ready.{IsReady};
+ghost use Rattle.desk_register.specs.View.{IsLater};
 ghost use Rattle.desk_file.specs.Opened.{IsOpened, IsReadyFor, view_of_both};
-ghost use Rattle.desk.specs.Left.{AreLeft, AreSaid, IsFoundIn, IsLeft};
-ghost use Rattle.desk.specs.OverFile.{IsAsked, IsDone, IsFileAnswer, IsOpenAnswer, LeavesFiles};
+ghost use Rattle.desk.specs.Left.{AreLeft, AreSaid, IsCleanBehind, IsFoundIn, IsLeft};
+ghost use Rattle.desk.specs.OverFile.{IsAsked, IsDone, IsDoneOver, IsFileAnswer, IsOpenAnswer, LeavesFiles};
 ghost use Rattle.desk.specs.PlayAnswer.{AreHeld, KeptBy};
-ghost use Rattle.desk.specs.Status.{IsOpeningFailure};
+ghost use Rattle.desk.specs.Status.{IsOpeningFailure, IsUnopened};
 
 use crate::answers::{
     Folders, Shown, play_desk, report_desk, serve_desk, show_on_both, take_folder,
 };
 use crate::status::{Failure, Status};
-use crate::store::{FileRegister, close_behind, connection_of, open, open_there, tell_unopened};
+use crate::store::{
+    Behind, FileRegister, close_behind, connection_of, open, open_there, tell_unopened,
+};
 use crate::teller::{Teller, Watch};
-use desk_book::Desk;
+use desk_book::{Desk, WasClosed};
 use desk_codes::Bic;
 use desk_file::MirroredRegister;
 use desk_register::Register;
@@ -27,7 +31,7 @@ use desk_report::Format;
 use desk_streams::{Sink, Source};
 use memory_register::ListRegister;
 use sql_register::SqlRegister;
-use sqlite::{Alter, Connection, Error, FileFrom, Files, Start};
+use sqlite::{Alter, Connection, FileFrom, Start};
 use sqlite_disk::Disk;
 use std::io;
 use std::rt::HostRuntime;
@@ -55,7 +59,8 @@ pub enum Ask<'a> {
 }
 
 /// Opens the desk of a file, does a job over it, and closes it. What is told is what the job tells by itself; a file that is not
-/// opened, or not closed, is its fault. Where the desk was closed, standard error says so.
+/// opened, or not closed, is its fault. Where the desk was closed, standard error says so. What is behind the job is handed back,
+/// where the file was opened. `start` stands for what the files held, as at `open_file`.
 pub fn over_file<S: Start, R: Source, W: Sink>(
     rt: &HostRuntime,
     path: &str,
@@ -63,13 +68,18 @@ pub fn over_file<S: Start, R: Source, W: Sink>(
     job: &Job<'_>,
     reader: &mut R,
     writer: &mut W,
-) -> io::Result<Status>
-    ensures told { IfOk result (λ status. IsFileAnswer job.now (R.remaining reader.old) (reader.new ≡ reader.old) R.may_fail status (Appends (W.contents writer.old) (W.contents writer.new))) }
-    ensures failed { OnErr result (W.may_fail ≡ true) }
+) -> (io::Result<Status>, Option<Behind<FileFrom<S>>>)
+    ensures done { IfSome result.1 (λ behind. IsDoneOver (image_at S.Start) job.now behind result.0 (R.remaining reader.old) (reader.new ≡ reader.old) R.may_fail (Appends (W.contents writer.old) (W.contents writer.new))) }
+    ensures unopened { result.1 ≡ None → (reader.new ≡ reader.old) × IfOk result.0 (λ status. IsUnopened status (Appends (W.contents writer.old) (W.contents writer.new))) }
+    ensures told { IfOk result.0 (λ status. IsFileAnswer job.now (R.remaining reader.old) (reader.new ≡ reader.old) R.may_fail status (Appends (W.contents writer.old) (W.contents writer.new))) }
+    ensures failed { OnErr result.0 (W.may_fail ≡ true) }
 {
     match open_for(rt, path, start, job) {
-        Ok(both) => over_opened(rt, path, both, job, reader, writer).0,
-        Err(failure) => tell_unopened(failure, writer),
+        Ok(both) => {
+            let (told, behind) = over_opened(rt, path, both, job, reader, writer);
+            (told, Some(behind))
+        }
+        Err(failure) => (tell_unopened(failure, writer), None),
     }
 }
 
@@ -90,7 +100,7 @@ fn open_for<S: Start>(
     }
 }
 
-/// The job over a file that was opened. Its files are handed back, where they could be closed.
+/// The job over a file that was opened.
 fn over_opened<D: Disk + Drop, R: Source, W: Sink>(
     rt: &HostRuntime,
     path: &str,
@@ -98,20 +108,22 @@ fn over_opened<D: Disk + Drop, R: Source, W: Sink>(
     job: &Job<'_>,
     reader: &mut R,
     writer: &mut W,
-) -> (io::Result<Status>, Result<Files<D>, Error>)
+) -> (io::Result<Status>, Behind<D>)
     requires { IsReadyFor MOST_ENTRIES (view_of_both over_files both) }
     ensures told { (books : Books) → KeptBy (view_of_both over_files both) books
-        → IfOk result.0 (λ status. IsOpenAnswer job.now (is_ok result.1) (AreLeft D.Disk result.1) books (R.remaining reader.old) (reader.new ≡ reader.old) R.may_fail status (Appends (W.contents writer.old) (W.contents writer.new))) }
+        → IfOk result.0 (λ status. IsOpenAnswer job.now (is_ok result.1.files) (AreLeft D.Disk result.1.was_closed result.1.files) books (R.remaining reader.old) (reader.new ≡ reader.old) R.may_fail status (Appends (W.contents writer.old) (W.contents writer.new))) }
     ensures answered { IfOk result.0 (λ status. IsFileAnswer job.now (R.remaining reader.old) (reader.new ≡ reader.old) R.may_fail status (Appends (W.contents writer.old) (W.contents writer.new))) }
-    ensures left { (books : Books) → KeptBy (view_of_both over_files both) books → LeavesFiles D.Disk job.now result.0 result.1 books (R.remaining reader.old) }
+    ensures left { (books : Books) → KeptBy (view_of_both over_files both) books → LeavesFiles D.Disk job.now result.0 result.1.was_closed result.1.files books (R.remaining reader.old) }
+    ensures clean { IsCleanBehind result.1.files → HasCleanDisk (file_state both.tables.connection) }
     ensures failed { OnErr result.0 (W.may_fail ≡ true) }
 {
     let mut teller = Teller::new(rt, path);
-    let (told, conn) = over_both(rt, both, job, &mut teller, reader, writer);
-    close_behind(rt, &teller, told, path, conn, writer)
+    let (told, was_closed, conn) = over_both(rt, both, job, &mut teller, reader, writer);
+    close_behind(rt, &teller, told, path, was_closed, conn, writer)
 }
 
-/// The job over tables with a register in memory beside them, of which the connection is given back.
+/// The job over tables with a register in memory beside them, of which the connection is given back, with that the desk was closed,
+/// where it was.
 fn over_both<S: Alter + Drop, R: Source, W: Sink>(
     rt: &HostRuntime,
     both: MirroredRegister<ListRegister, SqlRegister<S>>,
@@ -119,14 +131,18 @@ fn over_both<S: Alter + Drop, R: Source, W: Sink>(
     teller: &mut Teller<'_>,
     reader: &mut R,
     writer: &mut W,
-) -> (io::Result<Status>, Connection<S>)
+) -> (io::Result<Status>, Option<WasClosed>, Connection<S>)
     requires { IsReadyFor MOST_ENTRIES (view_of_both S.Store both) }
-    ensures done { IsDone job.now (KeptBy (view_of_both S.Store both)) (AreSaid (state S.Store result.1)) (R.remaining reader.old) (reader.new ≡ reader.old) R.may_fail result.0 (Appends (W.contents writer.old) (W.contents writer.new)) }
+    ensures done { IsDone job.now (KeptBy (view_of_both S.Store both)) (AreSaid result.1 (state S.Store result.2)) (R.remaining reader.old) (reader.new ≡ reader.old) R.may_fail result.0 (Appends (W.contents writer.old) (W.contents writer.new)) }
+    ensures clean { HasCleanDisk (state S.Store result.2) → HasCleanDisk (state S.Store both.tables.connection) }
     ensures failed { OnErr result.0 (W.may_fail ≡ true) }
 {
     match job {
         Job::Ask(ask) => ask_on_both(rt, both, ask, teller, reader, writer),
-        Job::Show(shown, format) => show_on_both(rt.alloc(), both, *shown, *format, writer),
+        Job::Show(shown, format) => {
+            let (told, conn) = show_on_both(rt.alloc(), both, *shown, *format, writer);
+            (told, None, conn)
+        }
     }
 }
 
@@ -138,17 +154,18 @@ fn ask_on_both<S: Alter + Drop, R: Source, W: Sink>(
     teller: &mut Teller<'_>,
     reader: &mut R,
     writer: &mut W,
-) -> (io::Result<Status>, Connection<S>)
+) -> (io::Result<Status>, Option<WasClosed>, Connection<S>)
     requires { IsReadyFor MOST_ENTRIES (view_of_both S.Store both) }
-    ensures asked { IsAsked ask.now MOST_ENTRIES (KeptBy (view_of_both S.Store both)) (AreSaid (state S.Store result.1)) (R.remaining reader.old) (reader.new ≡ reader.old) R.may_fail result.0 (Appends (W.contents writer.old) (W.contents writer.new)) }
+    ensures asked { IsAsked ask.now MOST_ENTRIES (KeptBy (view_of_both S.Store both)) (AreSaid result.1 (state S.Store result.2)) (R.remaining reader.old) (reader.new ≡ reader.old) R.may_fail result.0 (Appends (W.contents writer.old) (W.contents writer.new)) }
+    ensures clean { HasCleanDisk (state S.Store result.2) → HasCleanDisk (state S.Store both.tables.connection) }
     ensures failed { OnErr result.0 (W.may_fail ≡ true) }
 {
-    let (told, is_closed, both) = ask_on(rt, both, ask, teller, reader, writer);
-    teller.look(is_closed);
-    (told, connection_of(both))
+    let (told, was_closed, both) = ask_on(rt, both, ask, teller, reader, writer);
+    teller.look(was_closed.is_some());
+    (told, was_closed, connection_of(both))
 }
 
-/// Asks the desk over a register, which is given back, with whether the desk was closed then.
+/// Asks the desk over a register, which is given back, with that the desk was closed, where it was.
 fn ask_on<D: Register + Drop, R: Source, W: Sink>(
     rt: &HostRuntime,
     register: D,
@@ -156,17 +173,17 @@ fn ask_on<D: Register + Drop, R: Source, W: Sink>(
     teller: &mut Teller<'_>,
     reader: &mut R,
     writer: &mut W,
-) -> (io::Result<Status>, bool, D)
+) -> (io::Result<Status>, Option<WasClosed>, D)
     requires { IsReady false (D.view register) }
-    ensures asked { IsAsked ask.now (D.view register).room (AreHeld (D.view register) (D.view result.2)) (IsLeft result.1 (D.view result.2)) (R.remaining reader.old) (reader.new ≡ reader.old) R.may_fail result.0 (Appends (W.contents writer.old) (W.contents writer.new)) }
-    ensures ready { IsReady result.1 (D.view result.2) }
-    ensures room { (D.view result.2).room ≡ (D.view register).room }
+    ensures asked { IsAsked ask.now (D.view register).room (AreHeld (D.view register) (D.view result.2)) (IsLeft (is_some result.1) (D.view result.2)) (R.remaining reader.old) (reader.new ≡ reader.old) R.may_fail result.0 (Appends (W.contents writer.old) (W.contents writer.new)) }
+    ensures ready { IsReady (is_some result.1) (D.view result.2) }
+    ensures later { IsLater (D.view register) (D.view result.2) }
     ensures failed { OnErr result.0 (W.may_fail ≡ true) }
 {
     let mut desk = Desk::new(register);
     let told = ask_desk(rt, &mut desk, ask, teller, reader, writer);
-    let is_closed = desk.is_closed();
-    (told, is_closed, desk.into_register())
+    let (register, was_closed) = desk.into_parts();
+    (told, was_closed, register)
 }
 
 /// Asks a desk that is open.
@@ -180,7 +197,7 @@ fn ask_desk<D: Register + Drop, R: Source, W: Sink>(
 ) -> io::Result<Status>
     requires { desk.old.is_closed ≡ false }
     ensures asked { IsAsked ask.now (D.view desk.old.register).room (AreHeld (D.view desk.old.register) (D.view desk.new.register)) (IsLeft desk.new.is_closed (D.view desk.new.register)) (R.remaining reader.old) (reader.new ≡ reader.old) R.may_fail result (Appends (W.contents writer.old) (W.contents writer.new)) }
-    ensures room { (D.view desk.new.register).room ≡ (D.view desk.old.register).room }
+    ensures later { IsLater (D.view desk.old.register) (D.view desk.new.register) }
     ensures failed { OnErr result (W.may_fail ≡ true) }
 {
     match ask {

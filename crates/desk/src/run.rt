@@ -4,6 +4,7 @@ ghost use Rattle.std.specs.Io.KnownBytes.{Appends};
 ghost use Rattle.std.specs.IoError.{error_kind};
 ghost use Rattle.clap.specs.Words.{kind_of};
 ghost use Rattle.desk.specs.CallAnswer.{IsAnswer, IsCallAnswer, IsMemoryTold};
+ghost use Rattle.desk.specs.OverFile.{IsFileAnswer};
 ghost use Rattle.desk.specs.Status.{IsFailureTold, IsNoWordsTold, status_of_error};
 ghost use Rattle.desk_words.specs.Words.{CallValue, IsAskable, ReadsOnlyInstructions, value_of_call, words_for};
 
@@ -79,41 +80,55 @@ fn answer<R: Source, W: Sink>(
         Call::Isin(code) => answer_isin(code.as_bytes(), writer),
         Call::Read(mt) => answer_read(rt.alloc(), mt, reader, writer),
         Call::Play => answer_play(rt.alloc(), reader, writer),
-        Call::PlayOn(db) => over_file(rt, db, Unknown, &Job::Ask(Ask::Play), reader, writer),
+        Call::PlayOn(db) => over_real_file(rt, db, &Job::Ask(Ask::Play), reader, writer),
         Call::Check => answer_check(rt.alloc(), reader, writer),
         Call::Explain(topic) => answer_explain(topic, writer),
         Call::Serve(port, count) => answer_serve(rt, rt.alloc(), port, count, writer),
         Call::ServeOn(db, port, count) => {
             let job = Job::Ask(Ask::Serve(port, count));
-            over_file(rt, db, Unknown, &job, reader, writer)
+            over_real_file(rt, db, &job, reader, writer)
         }
         Call::Holdings(db, owner, account) => {
             let job = Job::Ask(Ask::Tell(Some(owner), account.as_bytes()));
-            over_file(rt, db, Unknown, &job, reader, writer)
+            over_real_file(rt, db, &job, reader, writer)
         }
         Call::Sums(db) => {
             let job = Job::Ask(Ask::Tell(None, b""));
-            over_file(rt, db, Unknown, &job, reader, writer)
+            over_real_file(rt, db, &job, reader, writer)
         }
         Call::Folder(db, from, to) => {
             let job = Job::Ask(Ask::Take(Folders { from, to }));
-            over_file(rt, db, Unknown, &job, reader, writer)
+            over_real_file(rt, db, &job, reader, writer)
         }
         Call::Report(parts, format) => {
             answer_overview(rt.alloc(), Shown::Report(parts), format, reader, writer)
         }
         Call::ReportOn(db, parts, format) => {
             let job = Job::Show(Shown::Report(parts), format);
-            over_file(rt, db, Unknown, &job, reader, writer)
+            over_real_file(rt, db, &job, reader, writer)
         }
         Call::Journal(from, format) => {
             answer_overview(rt.alloc(), Shown::Journal(from), format, reader, writer)
         }
         Call::JournalOn(db, from, format) => {
             let job = Job::Show(Shown::Journal(from), format);
-            over_file(rt, db, Unknown, &job, reader, writer)
+            over_real_file(rt, db, &job, reader, writer)
         }
     }
+}
+
+/// The job over the file of a path, of which nothing is known beforehand.
+fn over_real_file<R: Source, W: Sink>(
+    rt: &HostRuntime,
+    path: &str,
+    job: &Job<'_>,
+    reader: &mut R,
+    writer: &mut W,
+) -> io::Result<Status>
+    ensures told { IfOk result (λ status. IsFileAnswer job.now (R.remaining reader.old) (reader.new ≡ reader.old) R.may_fail status (Appends (W.contents writer.old) (W.contents writer.new))) }
+    ensures failed { OnErr result (W.may_fail ≡ true) }
+{
+    over_file(rt, path, Unknown, job, reader, writer).0
 }
 
 /// Prints help that was asked for, or what is wrong with the words; want of memory is a failure.

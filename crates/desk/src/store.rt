@@ -1,7 +1,7 @@
 //! The desk of a file: opened, and closed again.
 ghost use Rattle.std.specs.Prelude.{◌≡◌, Ok, true, is_ok, IfErr, IfOk, OnErr};
 ghost use Rattle.std.specs.Io.KnownBytes.{Appends};
-ghost use Rattle.sqlite.specs.Files.{file_state, over_files};
+ghost use Rattle.sqlite.specs.Files.{file_state, over_files, IsClosed};
 ghost use Rattle.sqlite.specs.Held.{state};
 ghost use Rattle.sqlite_wal.specs.Files.{image_at};
 ghost use Rattle.desk_register.specs.declared.register.Stage.TheVariants.{Idle};
@@ -15,12 +15,13 @@ ghost use Rattle.desk.specs.Status.{Ends, IsFailureTold, IsOpeningFailure, IsUno
 
 use crate::status::{Failure, Status, tell_failure};
 use crate::teller::Teller;
+use desk_book::WasClosed;
 use desk_file::{MirroredRegister, OpenFault, is_live, open_file};
 use desk_rules::MOST_ENTRIES;
 use desk_streams::Sink;
 use memory_register::ListRegister;
 use sql_register::SqlRegister;
-use sqlite::{Alter, Connection, Error, FileFrom, FileStore, Files, Start};
+use sqlite::{Alter, Connection, FileFrom, FileStore, Files, Start};
 use sqlite_disk::Disk;
 use std::rt::HostRuntime;
 use std::{fs, io};
@@ -30,6 +31,15 @@ const LONGEST_EMPTY_LOG: u64 = 64;
 
 /// A register in memory beside the tables of a file on such a disk.
 pub type FileRegister<D> = MirroredRegister<ListRegister, SqlRegister<FileStore<D>>>;
+
+/// What is behind a job that was done over the desk of a file.
+#[derive(Drop)]
+pub struct Behind<D: Disk> {
+    /// That the desk was closed, where it was
+    pub was_closed: Option<WasClosed>,
+    /// Its files, which were closed; or their store, where they could not be
+    pub files: Result<Files<D>, FileStore<D>>,
+}
 
 /// Opens the desk of a file, which is made where there is none. Why it is not opened is told on standard error too. `start` stands
 /// for what the files hold, as at `open_file`.
@@ -91,28 +101,33 @@ pub fn close_behind<D: Disk + Drop, W: Sink>(
     teller: &Teller<'_>,
     told: io::Result<Status>,
     path: &str,
+    was_closed: Option<WasClosed>,
     conn: Connection<FileStore<D>>,
     writer: &mut W,
-) -> (io::Result<Status>, Result<Files<D>, Error>)
+) -> (io::Result<Status>, Behind<D>)
     requires { OnErr told (W.may_fail ≡ true) }
-    ensures closed { IfOk result.1 (AreClosed conn) }
-    ensures left { PassesOn (AreSaid (file_state conn)) (AreLeft D.Disk result.1) }
-    ensures ends { Ends (is_ok result.1) told result.0 (W.contents writer.old) (W.contents writer.new) }
+    ensures closed { IfOk result.1.files (AreClosed conn) }
+    ensures unclosed { IfErr result.1.files (IsClosed conn) }
+    ensures left { PassesOn (AreSaid was_closed (file_state conn)) (AreLeft D.Disk result.1.was_closed result.1.files) }
+    ensures ends { Ends (is_ok result.1.files) told result.0 (W.contents writer.old) (W.contents writer.new) }
     ensures failed { OnErr result.0 (W.may_fail ≡ true) }
 {
-    let closed = close(rt, path, conn);
-    (ended(teller, told, &closed, writer), closed)
+    let files = close(rt, path, conn);
+    (
+        ended(teller, told, &files, writer),
+        Behind { was_closed, files },
+    )
 }
 
 /// Closes the file of a desk: what its log holds goes into it, and the log is removed while nobody else can open the two, which are
-/// handed back.
+/// handed back. Where that fails their store is: a crash, or its end, leaves of them nothing else than it might have left before.
 fn close<D: Disk + Drop>(
     rt: &HostRuntime,
     path: &str,
     conn: Connection<FileStore<D>>,
-) -> Result<Files<D>, Error>
+) -> Result<Files<D>, FileStore<D>>
     ensures closed { IfOk result (AreClosed conn) }
-    ensures left { PassesOn (AreSaid (file_state conn)) (AreLeft D.Disk result) }
+    ensures unclosed { IfErr result (IsClosed conn) }
 {
     match conn.close_files() {
         Ok(files) => {
@@ -120,10 +135,7 @@ fn close<D: Disk + Drop>(
             let _ = remove_log(rt, path);
             Ok(files)
         }
-        Err((error, store)) => {
-            drop(store.close());
-            Err(error)
-        }
+        Err((_, store)) => Err(store),
     }
 }
 
@@ -161,10 +173,10 @@ pub fn connection_of<S: Alter + Drop>(
 }
 
 /// Tells how a run over a file ended, which was closed then, or could not be. A run that ended in a fault tells no other.
-fn ended<F, W: Sink>(
+fn ended<F, E, W: Sink>(
     teller: &Teller<'_>,
     told: io::Result<Status>,
-    closed: &Result<F, Error>,
+    closed: &Result<F, E>,
     writer: &mut W,
 ) -> io::Result<Status>
     requires { OnErr told (W.may_fail ≡ true) }

@@ -1,5 +1,5 @@
 //! The desk: requests, answered from a register's tables.
-ghost use Rattle.std.specs.Prelude.{◌≡◌, [], true, false, map, All, IfErr, IfOk, OnErr};
+ghost use Rattle.std.specs.Prelude.{◌≡◌, [], true, false, is_some, map, All, IfErr, IfOk, OnErr};
 ghost use Rattle.desk_rules.specs.Books.{Books};
 ghost use Rattle.desk_register.specs.View.{IfCounted};
 ghost use Rattle.desk_book.specs.Answered.{ActsOnce, AnsweredInTurn, AreBlamed, says_closed};
@@ -36,6 +36,13 @@ pub struct Desk<R: Register> {
     is_closed: bool,
 }
 
+/// Says that a desk was closed. Only a desk that is closed gives one, as it is given up.
+#[derive(Drop)]
+pub struct WasClosed {
+    /// It has nothing to tell, and nobody else can make it
+    nothing: (),
+}
+
 impl<R: Register> Model for Desk<R> {
     ghost use Rattle.desk_book.specs.DeskValue.{DeskValue, desk_code};
     ghost use Rattle.desk_engine.specs.Ready.{IsReady};
@@ -68,6 +75,23 @@ impl<R: Register> Desk<R> {
         ensures ready { IsReady self.is_closed (R.view result) }
     {
         self.register
+    }
+
+    /// The register, as it stands now, and that the desk was closed, where it was.
+    pub fn into_parts(self) -> (R, Option<WasClosed>)
+        ensures register { result.0 ≡ self.register }
+        ensures closed { is_some result.1 ≡ self.is_closed }
+        ensures ready { IsReady self.is_closed (R.view result.0) }
+    {
+        let Desk {
+            register,
+            is_closed,
+        } = self;
+        if is_closed {
+            (register, Some(WasClosed { nothing: () }))
+        } else {
+            (register, None)
+        }
     }
 
     /// Whether the desk answers nothing any more.

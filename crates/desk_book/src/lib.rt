@@ -23,7 +23,7 @@ pub use answers::outgoing::{add_answer, add_fault};
 pub use answers::summing::write_sums;
 pub use answers::total::{CashTotal, SecurityTotal};
 pub use answers::writing::{write_row, write_text};
-pub use desk::Desk;
+pub use desk::{Desk, WasClosed};
 pub use fault::{Fault, PlayFault, ToFault};
 pub use laws::{
     accepted_again, accepted_stays, changes_are_confirmed, closed_for_good, headline,

@@ -28,7 +28,7 @@ pub fn report_desk<D: Register + Drop, W: Sink>(
 ) -> io::Result<Status>
     requires { desk.old.is_closed ≡ false }
     ensures reported { ReportsFrom (D.view desk.old.register).room (AreHeld (D.view desk.old.register) (D.view desk.new.register)) (IsLeft desk.new.is_closed (D.view desk.new.register)) (asked_for owner account.now) result (Appends (W.contents writer.old) (W.contents writer.new)) }
-    ensures room { (D.view desk.new.register).room ≡ (D.view desk.old.register).room }
+    ensures later { IsLater (D.view desk.old.register) (D.view desk.new.register) }
     ensures failed { OnErr result (W.may_fail ≡ true) }
 {
     let written = write_report(alloc, desk, owner, account, writer);

@@ -2,6 +2,7 @@
 ghost use Rattle.std.specs.Prelude.{◌≡◌, true, false, Ok, Err, IfOk, OnErr, OnOk};
 ghost use Rattle.std.specs.Io.KnownBytes.{Appends};
 ghost use Rattle.desk_rules.specs.declared.limits.TheConstants.{MOST_ENTRIES};
+ghost use Rattle.desk_register.specs.View.{IsLater};
 ghost use Rattle.desk.specs.Left.{IsLeft};
 ghost use Rattle.desk.specs.PlayAnswer.{AreHeld, IsPlayAnswer, IsPlayTold, PlaysFrom};
 
@@ -54,7 +55,7 @@ pub fn play_desk<D: Register + Drop, R: Source, W: Sink>(
 ) -> io::Result<Status>
     requires { desk.old.is_closed ≡ false }
     ensures played { PlaysFrom (D.view desk.old.register).room (AreHeld (D.view desk.old.register) (D.view desk.new.register)) (IsLeft desk.new.is_closed (D.view desk.new.register)) (R.remaining reader.old) (reader.new ≡ reader.old) R.may_fail result (Appends (W.contents writer.old) (W.contents writer.new)) }
-    ensures room { (D.view desk.new.register).room ≡ (D.view desk.old.register).room }
+    ensures later { IsLater (D.view desk.old.register) (D.view desk.new.register) }
     ensures failed { OnErr result (W.may_fail ≡ true) }
 {
     let played = desk.play(alloc, reader, writer);

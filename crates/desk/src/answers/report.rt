@@ -9,9 +9,10 @@ ghost use Rattle.desk_engine.specs.Ready.{IsReady, KeepsFormed};
 ghost use Rattle.desk_book.specs.RowByRow.{WritesText};
 ghost use Rattle.memory_register.specs.ListsView.{view_of_lists};
 ghost use Rattle.desk_file.specs.Opened.{IsReadyFor, view_of_both};
-ghost use Rattle.desk_register.specs.View.{IfTrusted, IsRead};
+ghost use Rattle.desk_register.specs.View.{IfTrusted, IsLater, IsRead};
 ghost use Rattle.desk_register.specs.declared.register.Stage.TheVariants.{Idle};
 ghost use Rattle.sqlite.specs.Held.{state};
+ghost use Rattle.sqlite.specs.State.{HasCleanDisk};
 ghost use Rattle.desk.specs.Left.{TablesSay};
 ghost use Rattle.desk.specs.PlayAnswer.{KeptBy};
 ghost use Rattle.desk.specs.OverviewAnswer.{IsAfterScript, IsBrokenOffAs, IsOverviewAnswer, IsOverviewEnd, IsOverviewFrom, IsShownText, MayPlayNone, failure_of_played, line_end};
@@ -94,6 +95,7 @@ pub fn show_on_both<S: Alter + Drop, W: Sink>(
     ensures told { (books : Books) → KeptBy (view_of_both S.Store both) books
         → IfOk result.0 (λ status. IsOverviewFrom format shown books status (Appends (W.contents writer.old) (W.contents writer.new))) }
     ensures left { (books : Books) → KeptBy (view_of_both S.Store both) books → TablesSay (state S.Store result.1) books }
+    ensures clean { HasCleanDisk (state S.Store result.1) → HasCleanDisk (state S.Store both.tables.connection) }
     ensures failed { OnErr result.0 (W.may_fail ≡ true) }
 {
     let mut both = both;
@@ -113,6 +115,7 @@ fn tell_overview<D: Register, W: Sink>(
     ensures told { (books : Books) → (D.view register.new).is_honest → (D.view register.old).room ≡ MOST_ENTRIES → KeepsFormed MOST_ENTRIES books (D.view register.old).content
         → IfOk result (λ status. IsOverviewFrom format shown books status (Appends (W.contents writer.old) (W.contents writer.new))) }
     ensures stage { (D.view register.new).stage ≡ Idle }
+    ensures later { IsLater (D.view register.old) (D.view register.new) }
     ensures same { (D.view register.new).is_honest → (D.view register.new).is_sure → (D.view register.new).content ≡ (D.view register.old).content }
     ensures failed { OnErr result (W.may_fail ≡ true) }
 {

@@ -37,35 +37,35 @@ returns-in-Journal-clause-told g c =
 
 pub returns-in-PlayOn-clause-told : goal.returns-in-PlayOn-clause-told
 returns-in-PlayOn-clause-told g c =
-    told_of c.over_file.result (g.R.Read.remaining c.args.reader.now) _ g.R.Source.may_fail (Appends (g.W.Write.contents c.args.writer.now) (g.W.Write.contents c.over_file.new.writer)) c.args.call (call.PlayOn c.in-PlayOn.db) c.in-PlayOn.is
-    c.over_file.ensures.told
+    told_of c.over_real_file.result (g.R.Read.remaining c.args.reader.now) _ g.R.Source.may_fail (Appends (g.W.Write.contents c.args.writer.now) (g.W.Write.contents c.over_real_file.new.writer)) c.args.call (call.PlayOn c.in-PlayOn.db) c.in-PlayOn.is
+    c.over_real_file.ensures.told
 
 pub returns-in-ServeOn-clause-told : goal.returns-in-ServeOn-clause-told
 returns-in-ServeOn-clause-told g c =
-    told_of c.over_file-in-ServeOn.result (g.R.Read.remaining c.args.reader.now) _ g.R.Source.may_fail (Appends (g.W.Write.contents c.args.writer.now) (g.W.Write.contents c.over_file-in-ServeOn.new.writer)) c.args.call (call.ServeOn c.in-ServeOn.db c.in-ServeOn.port c.in-ServeOn.count) c.in-ServeOn.is
-    c.over_file-in-ServeOn.ensures.told
+    told_of c.over_real_file-in-ServeOn.result (g.R.Read.remaining c.args.reader.now) _ g.R.Source.may_fail (Appends (g.W.Write.contents c.args.writer.now) (g.W.Write.contents c.over_real_file-in-ServeOn.new.writer)) c.args.call (call.ServeOn c.in-ServeOn.db c.in-ServeOn.port c.in-ServeOn.count) c.in-ServeOn.is
+    c.over_real_file-in-ServeOn.ensures.told
 
 pub returns-in-Holdings-clause-told : goal.returns-in-Holdings-clause-told
 returns-in-Holdings-clause-told g c =
-    told_of c.over_file-in-Holdings.result (g.R.Read.remaining c.args.reader.now) _ g.R.Source.may_fail (Appends (g.W.Write.contents c.args.writer.now) (g.W.Write.contents c.over_file-in-Holdings.new.writer)) c.args.call (call.Holdings c.in-Holdings.db c.in-Holdings.owner c.in-Holdings.account) c.in-Holdings.is
-    (rw c.as_bytes-in-Holdings.ensures.value at c.over_file-in-Holdings.ensures.told)
+    told_of c.over_real_file-in-Holdings.result (g.R.Read.remaining c.args.reader.now) _ g.R.Source.may_fail (Appends (g.W.Write.contents c.args.writer.now) (g.W.Write.contents c.over_real_file-in-Holdings.new.writer)) c.args.call (call.Holdings c.in-Holdings.db c.in-Holdings.owner c.in-Holdings.account) c.in-Holdings.is
+    (rw c.as_bytes-in-Holdings.ensures.value at c.over_real_file-in-Holdings.ensures.told)
 
 pub returns-in-Sums-clause-told : goal.returns-in-Sums-clause-told
 returns-in-Sums-clause-told g c =
-    told_of c.over_file-in-Sums.result (g.R.Read.remaining c.args.reader.now) _ g.R.Source.may_fail (Appends (g.W.Write.contents c.args.writer.now) (g.W.Write.contents c.over_file-in-Sums.new.writer)) c.args.call (call.Sums c.in-Sums.db) c.in-Sums.is
-    c.over_file-in-Sums.ensures.told
+    told_of c.over_real_file-in-Sums.result (g.R.Read.remaining c.args.reader.now) _ g.R.Source.may_fail (Appends (g.W.Write.contents c.args.writer.now) (g.W.Write.contents c.over_real_file-in-Sums.new.writer)) c.args.call (call.Sums c.in-Sums.db) c.in-Sums.is
+    c.over_real_file-in-Sums.ensures.told
 
 pub returns-in-Folder-clause-told : goal.returns-in-Folder-clause-told
 returns-in-Folder-clause-told g c =
-    told_of c.over_file-in-Folder.result (g.R.Read.remaining c.args.reader.now) _ g.R.Source.may_fail (Appends (g.W.Write.contents c.args.writer.now) (g.W.Write.contents c.over_file-in-Folder.new.writer)) c.args.call (call.Folder c.in-Folder.db c.in-Folder.from c.in-Folder.to) c.in-Folder.is
-    c.over_file-in-Folder.ensures.told
+    told_of c.over_real_file-in-Folder.result (g.R.Read.remaining c.args.reader.now) _ g.R.Source.may_fail (Appends (g.W.Write.contents c.args.writer.now) (g.W.Write.contents c.over_real_file-in-Folder.new.writer)) c.args.call (call.Folder c.in-Folder.db c.in-Folder.from c.in-Folder.to) c.in-Folder.is
+    c.over_real_file-in-Folder.ensures.told
 
 pub returns-in-ReportOn-clause-told : goal.returns-in-ReportOn-clause-told
 returns-in-ReportOn-clause-told g c =
-    told_of c.over_file-in-ReportOn.result (g.R.Read.remaining c.args.reader.now) _ g.R.Source.may_fail (Appends (g.W.Write.contents c.args.writer.now) (g.W.Write.contents c.over_file-in-ReportOn.new.writer)) c.args.call (call.ReportOn c.in-ReportOn.db c.in-ReportOn.parts c.in-ReportOn.format) c.in-ReportOn.is
-    c.over_file-in-ReportOn.ensures.told
+    told_of c.over_real_file-in-ReportOn.result (g.R.Read.remaining c.args.reader.now) _ g.R.Source.may_fail (Appends (g.W.Write.contents c.args.writer.now) (g.W.Write.contents c.over_real_file-in-ReportOn.new.writer)) c.args.call (call.ReportOn c.in-ReportOn.db c.in-ReportOn.parts c.in-ReportOn.format) c.in-ReportOn.is
+    c.over_real_file-in-ReportOn.ensures.told
 
 pub returns-in-JournalOn-clause-told : goal.returns-in-JournalOn-clause-told
 returns-in-JournalOn-clause-told g c =
-    told_of c.over_file-in-JournalOn.result (g.R.Read.remaining c.args.reader.now) _ g.R.Source.may_fail (Appends (g.W.Write.contents c.args.writer.now) (g.W.Write.contents c.over_file-in-JournalOn.new.writer)) c.args.call (call.JournalOn c.in-JournalOn.db c.in-JournalOn.from c.in-JournalOn.format) c.in-JournalOn.is
-    c.over_file-in-JournalOn.ensures.told
+    told_of c.over_real_file-in-JournalOn.result (g.R.Read.remaining c.args.reader.now) _ g.R.Source.may_fail (Appends (g.W.Write.contents c.args.writer.now) (g.W.Write.contents c.over_real_file-in-JournalOn.new.writer)) c.args.call (call.JournalOn c.in-JournalOn.db c.in-JournalOn.from c.in-JournalOn.format) c.in-JournalOn.is
+    c.over_real_file-in-JournalOn.ensures.told

@@ -31,3 +31,6 @@ returns-clause-played g c =
           (λ is. left_so view old now books (p.unread is).0 c.requires (λ it. held.1)) (λ is. left_so view old now books (p.too_long is).0 c.requires (λ it. held.1)) (λ is. left_so view old now books (p.memory is).0 c.requires (λ it. held.1))
           (λ is. p.stands is books held.0 (λ it. held.1));
     }
+
+pub returns-clause-later : goal.returns-clause-later
+returns-clause-later g c = c.play-played.ensures.left.later

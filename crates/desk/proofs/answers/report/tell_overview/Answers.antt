@@ -19,3 +19,6 @@ returns-clause-stage g c = have_stage (g.D.Register.view c.args.register.now) (g
 
 pub returns-clause-same : goal.returns-clause-same
 returns-clause-same g c = have_same (g.D.Register.view c.args.register.now) (g.D.Register.view c.write_shown-written.new.register) _ (c.requires.ready.stage refl) c.write_shown-written.ensures.read
+
+pub returns-clause-later : goal.returns-clause-later
+returns-clause-later g c = c.write_shown-written.ensures.read.later
