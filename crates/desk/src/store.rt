@@ -55,7 +55,7 @@ pub fn open<S: Start>(
     let mut teller = Teller::new(rt, path);
     match open_file(rt, path, start, MOST_ENTRIES, &mut teller) {
         Ok(both) => Ok(both),
-        Err(fault) => {
+        Err((fault, _)) => {
             teller.unopened(fault);
             Err(Failure::from(fault))
         }

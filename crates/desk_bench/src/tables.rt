@@ -105,7 +105,7 @@ fn play_on_tables_in_memory(rt: &HostRuntime) -> Result<(), Failure> {
 fn play_on_tables(rt: &HostRuntime, path: &str) -> Result<(), Failure> {
     match open_tables(rt, path, Unknown, MOST_ENTRIES) {
         Ok(tables) => play_over_tables(rt, tables),
-        Err(fault) => Err(Failure::from(fault)),
+        Err((fault, _)) => Err(Failure::from(fault)),
     }
 }
 
@@ -181,7 +181,7 @@ fn do_on_file(rt: &HostRuntime, path: &str, limit: u64, deed: Deed<'_>) -> Resul
             }
             Ok(())
         }
-        Err(fault) => Err(Failure::from(fault)),
+        Err((fault, _)) => Err(Failure::from(fault)),
     }
 }
 

@@ -10,6 +10,7 @@ pub mod GoneLemmas
 mod HandedLemmas
 pub mod HistoryFacts
 pub mod KeptLemmas
+pub mod LeftLemmas
 pub mod OpenedLemmas
 pub mod OrderLemmas
 pub mod PartLemmas

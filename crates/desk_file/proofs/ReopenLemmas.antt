@@ -3,13 +3,18 @@ use Rattle.std.proofs.Common.{◌≡◌, inl, inr, ℕ, false, IsTrue, sym, ap, 
 use Rattle.std.proofs.lemmas.Bool.{both_ways, cases_Bool}
 use Rattle.sqlite.specs.Effect.{Database, IsDatabase}
 use Rattle.sqlite.specs.Schema.{Schema}
-use Rattle.sqlite.specs.Steps.{IsFresh}
-use Rattle.sqlite_catalog.specs.Listing.{Lists}
+use Rattle.sqlite.specs.State.{store_error}
+use Rattle.sqlite.specs.Steps.{FailsToOpen, IsFresh}
+use Rattle.sqlite.specs.declared.error.Error.{Error}
+use Rattle.sqlite_catalog.specs.Listing.{IsSound, Lists}
 use Rattle.sqlite_catalog.proofs.ReadLemmas.{lists_once}
 use Rattle.sqlite_trees.specs.Objects.{catalog_tree, IsListed}
 use Rattle.sqlite_trees.specs.Tree.{Trees}
 use Rattle.sqlite_trees.specs.View.{View, IsClean, IsOrdered, IsQuiet, IsRolledBack}
+use Rattle.sqlite_trees.specs.declared.error.StoreError.{StoreError}
+use Rattle.sqlite_trees.specs.declared.error.StoreError.TheVariants as stored
 use Rattle.sqlite_trees.specs.declared.store.Shape.{Shape}
+use Rattle.desk_file.specs.Faults.{opening_fault_for, IsRefusal}
 use Rattle.sql_tables.specs.Order.{AreInOrder}
 use Rattle.desk_file.proofs.OrderLemmas.{in_shape}
 
@@ -50,6 +55,22 @@ pub in_order : (shapes : ℕ → Shape) (reals : ℕ → ℕ) (trees : Trees) (d
     → AreInOrder db.schema db.trees
 in_order shapes reals trees db listed ordered same database =
     in_shape shapes reals db.schema db.trees (subst (λ (t : Trees). IsListed (t catalog_tree) shapes reals) (sym same) listed) (subst (IsOrdered shapes) (sym same) ordered) database.lists
+
+-- ---- a store that is opened anew
+
+-- the store's own failures refuse nothing
+store_not_refused : (cause : StoreError) → ¬ IsRefusal (opening_fault_for (store_error cause))
+store_not_refused stored.OutOfMemory = λ x. x
+store_not_refused stored.Io = λ x. x
+store_not_refused stored.Corrupt = λ x. x
+store_not_refused stored.Full = λ x. x
+store_not_refused stored.Broken = λ x. x
+store_not_refused stored.Unstorable = λ x. x
+
+-- nor are trees refused that are a database
+pub not_refused : (schema : Schema) (db : Trees) (F : Type 0) (e : Error) → IsSound schema db → FailsToOpen db F e → ¬ IsRefusal (opening_fault_for e)
+not_refused schema db F e sound (inl foreign) = absurd (foreign.1 schema sound)
+not_refused schema db F e sound (inr failed) = subst (λ x. ¬ IsRefusal (opening_fault_for x)) (sym failed.1) (store_not_refused failed.0)
 
 -- ---- what is told of a result, joined
 

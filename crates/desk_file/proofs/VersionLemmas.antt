@@ -17,14 +17,14 @@ use Rattle.sqlite.proofs.Callers.{IsPlain, command_of, runs_as}
 use Rattle.sqlite_schema.specs.declared.command.Returning.{Returning}
 use Rattle.sqlite_tied.specs.Compute.{everything}
 use Rattle.sql_tables.specs.Control.{Begins, begin_text}
-use Rattle.sql_tables.specs.Ends.{ForCause}
+use Rattle.sql_tables.specs.Ends.{ForCause, SaysWhy}
 use Rattle.sql_tables.specs.Making.{KeepsCommitted}
 use Rattle.sql_tables.specs.Queries.{plain}
 use Rattle.sql_tables.specs.Schema.{desk_schema}
 use Rattle.sql_tables.specs.Statements.{IsQuery}
 use Rattle.sql_tables.proofs.BlameLemmas.{IsWhole, IsWholeIn, control_caused_in, query_caused}
 use Rattle.sql_tables.proofs.CallLemmas.{later_then}
-use Rattle.sql_tables.proofs.EndLemmas.{execute_fell, execute_opened, later_from, query_fell, query_opened, show_opened}
+use Rattle.sql_tables.proofs.EndLemmas.{execute_fell, execute_opened, later_from, query_fell, query_opened, query_why, show_opened}
 use Rattle.desk_file.specs.Spared.{Spares}
 
 -- the text means the same over any tables
@@ -100,6 +100,10 @@ module _ {X : Type 0} (items : X → List Row) (old new : State) (sql : List ℕ
     kept = λ clean. query_kept r (inside (omega (arith, clean, survives.clean))) (shown clean) (fails clean);
   }
 
+  pub query_says_why : IsTrue old.is_open → (r : Result X Error) → IfErr r (FailsToQuery sql params old new) → IfErr r (SaysWhy old new)
+  query_says_why is_open (Ok rows) fails = tt
+  query_says_why is_open (Err e) fails = query_why old new sql params e fails is_open
+
 -- ---- one call after another
 
 pub spares_none : (a : State) → Spares a a
@@ -111,26 +115,3 @@ spares_then a b c p q = record {
   opened = λ clean now. p.opened (omega (arith, clean, q.later.clean)) (q.opened clean now);
   kept = λ clean now. q.kept clean now ∙ p.kept (omega (arith, clean, q.later.clean)) (q.opened clean now);
 }
-
--- ---- the versions of the desk's own tables
-
-abbrev pub versions_text : List ℕ
-versions_text = codes "SELECT number FROM version LIMIT 2"
-
-abbrev two : Query
-two = record (plain 10 [] (col 1 0 ∷ [])) { limit = lit (Int (pos 2)) }
-
-versions_is : command_of (understood desk_schema versions_text) ≡ Select (record { lets = []; body = two }) (codes "number" ∷ [])
-unfolding understood everything
-versions_is = refl
-
-versions_whole : IsWhole versions_text 0
-unfolding understood everything
-versions_whole = record { plain = (refl, refl); whole = refl; width_is = refl }
-
-versions_query : IsQuery versions_text
-unfolding understood everything
-versions_query = record { selects = refl; plain = (refl, refl); unlisted = refl }
-
-pub versions_caused : (old new : State) → old.now.schema ≡ desk_schema → IsTrue old.is_open → (r : Result (Vec Row Global) Error) → IfErr r (FailsToQuery versions_text [] old new) → IfErr r (ForCause old new)
-versions_caused old new has open' r h = query_caused old new has open' versions_text [] versions_whole two _ versions_is versions_query.unlisted refl refl refl r h

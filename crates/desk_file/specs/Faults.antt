@@ -1,5 +1,5 @@
 -- Why a database is not opened, by what failed.
-use Rattle.std.specs.Prelude.{◌≡◌, ◌+◌, ◌<◌, ◌^◌, ℕ, Bool, true, false}
+use Rattle.std.specs.Prelude.{◌≡◌, ◌+◌, ◌<◌, ◌^◌, ℕ, Bool, true, false, ⊤}
 use Rattle.sqlite.specs.State.{State}
 use Rattle.sqlite.specs.declared.error.Error.{Error}
 use Rattle.sqlite.specs.declared.error.Error.TheVariants.{SqliteFailure}
@@ -18,23 +18,33 @@ number_of_fault OtherVersion = 51
 number_of_fault Memory = 60
 number_of_fault Storage = 61
 
--- want of memory, a value too large and a table with no number left for a row are told as that; what is no database is not ours; the
--- device is blamed for the rest
+-- a database is refused, as none of the desk's or as one of another version (50, 51)
+abbrev pub IsRefusal : OpenFault → Type 0
+IsRefusal (NotOurFile difference) = ⊤
+IsRefusal OtherVersion = ⊤
+IsRefusal Memory = ⊥
+IsRefusal Storage = ⊥
+
+-- want of memory, a value too large and a table with no number left for a row are told as that; the device is blamed for the rest
 abbrev pub fault_for : Error → OpenFault
 fault_for (SqliteFailure OutOfMemory) = Memory
 fault_for (SqliteFailure TooBig) = Memory
 fault_for (SqliteFailure NoRowid) = Memory
-fault_for (SqliteFailure NotADatabase) = NotOurFile NoDatabase
 fault_for error = Storage
+
+-- what is opened and is no database is not ours
+abbrev pub opening_fault_for : Error → OpenFault
+opening_fault_for (SqliteFailure NotADatabase) = NotOurFile NoDatabase
+opening_fault_for error = fault_for error
 
 -- files that are refused though the device gave back what it took are not ours either
 abbrev pub unharmed_fault_for : Error → OpenFault
 unharmed_fault_for (SqliteFailure DatabaseCorrupt) = NotOurFile NoDatabase
-unharmed_fault_for error = fault_for error
+unharmed_fault_for error = opening_fault_for error
 
 -- which it is depends on whether the device was caught giving other bytes than it took
 abbrev pub files_fault_for : Bool → Error → OpenFault
-files_fault_for true error = fault_for error
+files_fault_for true error = opening_fault_for error
 files_fault_for false error = unharmed_fault_for error
 
 abbrev pub register_fault_for : Fault → OpenFault

@@ -3,7 +3,9 @@ pub mod Audited
 pub mod Both
 pub mod Checks
 pub mod Course
+pub mod Desks
 pub mod Faults
+pub mod Left
 pub mod Mirrored
 pub mod Opened
 pub mod Outline

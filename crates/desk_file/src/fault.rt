@@ -1,6 +1,6 @@
 //! Why a database is not opened.
 ghost use Rattle.std.specs.Prelude.{◌≡◌};
-ghost use Rattle.desk_file.specs.Faults.{audit_fault_for, fault_for, files_fault_for, number_of_fault};
+ghost use Rattle.desk_file.specs.Faults.{audit_fault_for, fault_for, files_fault_for, number_of_fault, opening_fault_for, IsRefusal};
 
 use crate::audit::rest::Table;
 use desk_register::Fault;
@@ -48,18 +48,28 @@ impl OpenFault {
     }
 }
 
-/// What a failure of a connection comes to.
+/// What a statement that failed comes to. The database was read when it was opened, so that no statement refuses it.
 pub fn fault_of(error: &Error) -> OpenFault
-    ensures { result ≡ fault_for error.now }
+    ensures value { result ≡ fault_for error.now }
+    ensures no_refusal { ¬ IsRefusal result }
 {
     match error {
         Error::SqliteFailure(ErrorCode::OutOfMemory) => OpenFault::Memory,
         Error::SqliteFailure(ErrorCode::TooBig) => OpenFault::Memory,
         Error::SqliteFailure(ErrorCode::NoRowid) => OpenFault::Memory,
+        _ => OpenFault::Storage,
+    }
+}
+
+/// What a failure to open a database comes to, of which the library says where there is none.
+pub fn fault_of_opening(error: &Error) -> OpenFault
+    ensures { result ≡ opening_fault_for error.now }
+{
+    match error {
         Error::SqliteFailure(ErrorCode::NotADatabase) => {
             OpenFault::NotOurFile(Difference::NoDatabase)
         }
-        _ => OpenFault::Storage,
+        _ => fault_of(error),
     }
 }
 
@@ -69,19 +79,20 @@ pub fn fault_of_files(error: &Error, is_caught: bool) -> OpenFault
     ensures { result ≡ files_fault_for is_caught error.now }
 {
     if is_caught {
-        return fault_of(error);
+        return fault_of_opening(error);
     }
     match error {
         Error::SqliteFailure(ErrorCode::DatabaseCorrupt) => {
             OpenFault::NotOurFile(Difference::NoDatabase)
         }
-        _ => fault_of(error),
+        _ => fault_of_opening(error),
     }
 }
 
 /// What an audit that gave no answer comes to.
 pub fn fault_of_audit(fault: &AuditFault) -> OpenFault
-    ensures { result ≡ audit_fault_for fault.now }
+    ensures value { result ≡ audit_fault_for fault.now }
+    ensures no_refusal { ¬ IsRefusal result }
 {
     match fault {
         AuditFault::Register(Fault::Memory) => OpenFault::Memory,

@@ -1,12 +1,16 @@
 //! The same way in, for the tables alone.
-ghost use Rattle.std.specs.Prelude.{◌≤◌, IfErr, IfOk, IsTrue};
-ghost use Rattle.sqlite.specs.Files.{over_files};
+ghost use Rattle.std.specs.Prelude.{◌≡◌, ◌≤◌, ◌<◌, IfErr, IfOk, IfSome, IsSomeAnd, IsTrue};
+ghost use Rattle.sqlite.specs.Files.{over_files, IsCleanLeft};
 ghost use Rattle.sqlite.specs.Held.{state};
 ghost use Rattle.sqlite_trees.specs.View.{IsClean};
 ghost use Rattle.sqlite_wal.specs.Files.{image_at};
 ghost use Rattle.desk_rules.specs.declared.limits.TheConstants.{MOST_ENTRIES};
 ghost use Rattle.desk_file.specs.Alone.{AreFoundIn, AreFoundOf, AreOpened, IsAlone};
+ghost use Rattle.desk_file.specs.Desks.{IsDesks, IsDesksIn};
+ghost use Rattle.desk_file.specs.Faults.{IsRefusal};
+ghost use Rattle.desk_file.specs.Left.{HasFailed, LeavesIn};
 ghost use Rattle.desk_file.specs.Opened.{IsHandedBack};
+ghost use Rattle.desk_file.specs.declared.fault.OpenFault.TheVariants.{Storage};
 
 use crate::audit::progress::Silent;
 use crate::fault::OpenFault;
@@ -14,7 +18,7 @@ use crate::mirror::mirrored_register::MirroredRegister;
 use crate::opening::{adopt, open_file};
 use memory_register::ListRegister;
 use sql_register::SqlRegister;
-use sqlite::{Alter, Connection, FileFrom, FileStore, Start};
+use sqlite::{Alter, Connection, FileFrom, FileStore, Leftover, Start};
 use std::alloc::Global;
 use std::rt::HostRuntime;
 
@@ -40,6 +44,8 @@ pub fn adopt_tables<S: Alter + Drop>(
     ensures opened { IfOk result (AreOpened S.Store limit) }
     ensures which { IfOk result (AreFoundOf S.Store (state S.Store conn).committed) }
     ensures back { IfErr result (λ e. IsClean (S.Store.view e.1) → IsTrue (S.Store.view e.1).is_open → IsHandedBack (S.Store.view e.1) (state S.Store conn)) }
+    ensures refused { IfErr result (λ e. IsClean (S.Store.view e.1) → IsRefusal e.0 → ¬ IsDesks limit (state S.Store conn).committed) }
+    ensures blame { IfErr result (λ e. IsClean (S.Store.view e.1) → IsTrue (state S.Store conn).is_open → e.0 ≡ Storage → 0 < S.Store.faults e.1) }
 {
     alone(adopt(alloc, conn, limit))
 }
@@ -50,10 +56,13 @@ pub fn open_tables<S: Start>(
     path: &str,
     start: S,
     limit: u64,
-) -> Result<SqlRegister<FileStore<FileFrom<S>>>, OpenFault>
+) -> Result<SqlRegister<FileStore<FileFrom<S>>>, (OpenFault, Option<Leftover<FileFrom<S>>>)>
     requires { limit ≤ MOST_ENTRIES }
     ensures opened { IfOk result (AreOpened over_files limit) }
     ensures which { IfOk result (AreFoundIn over_files (image_at S.Start)) }
+    ensures back { IfErr result (λ e. IfSome e.1 (λ left. IsCleanLeft left → LeavesIn (image_at S.Start) left)) }
+    ensures refused { IfErr result (λ e. IsRefusal e.0 → IsSomeAnd e.1 (λ left. IsCleanLeft left → ¬ IsDesksIn limit (image_at S.Start))) }
+    ensures blame { IfErr result (λ e. e.0 ≡ Storage → IfSome e.1 (λ left. IsCleanLeft left → HasFailed left)) }
 {
     alone(open_file(rt, path, start, limit, &mut Silent))
 }

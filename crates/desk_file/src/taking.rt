@@ -1,14 +1,17 @@
 //! A database that was opened is made the desk's, or found to be.
-ghost use Rattle.std.specs.Prelude.{◌≡◌, ◌⊎◌, ◌≤◌, false, IfErr, IfOk, IsTrue, None};
+ghost use Rattle.std.specs.Prelude.{◌≡◌, ◌≤◌, false, IfErr, IfOk, IsTrue, None};
 ghost use Rattle.sqlite.specs.Held.{state};
 ghost use Rattle.sqlite.specs.State.{HasCleanDisk};
 ghost use Rattle.memory_register.specs.ListsView.{view_of_lists};
 ghost use Rattle.desk_rules.specs.declared.limits.TheConstants.{MOST_ENTRIES};
-ghost use Rattle.sql_tables.specs.Calls.{Soundly, tables};
+ghost use Rattle.desk_rules.specs.Content.{Content};
+ghost use Rattle.sql_tables.specs.Calls.{tables};
 ghost use Rattle.sql_tables.specs.Ends.{IsLater};
 ghost use Rattle.sql_tables.specs.Making.{KeepsCommitted};
-ghost use Rattle.sql_tables.specs.Schema.{desk_schema, no_schema};
-ghost use Rattle.desk_file.specs.Faults.{IsBlamed};
+ghost use Rattle.sql_tables.specs.Schema.{no_schema};
+ghost use Rattle.desk_file.specs.Audited.{IsAudited};
+ghost use Rattle.desk_file.specs.Desks.{IsDesks};
+ghost use Rattle.desk_file.specs.Faults.{IsBlamed, IsRefusal};
 ghost use Rattle.desk_file.specs.Opened.{Finds, IsOpened, StandsOpen};
 ghost use Rattle.desk_file.specs.Spared.{Spares};
 
@@ -25,7 +28,7 @@ use std::alloc::Global;
 /// Why a database that is not the desk's, in this version, is refused.
 fn refusal<S: Alter>(conn: &mut Connection<S>) -> OpenFault
     ensures spares { Spares (state S.Store conn.old) (state S.Store conn.new) }
-    ensures blame { Soundly S.Store conn.old conn.new ((state S.Store conn.old).in_transaction ≡ false → (state S.Store conn.old).step_limit ≡ None → IsBlamed (state S.Store conn.old) (state S.Store conn.new) result) }
+    ensures blame { HasCleanDisk (state S.Store conn.new) → IsTrue (state S.Store conn.old).is_open → (state S.Store conn.old).in_transaction ≡ false → (state S.Store conn.old).step_limit ≡ None → IsBlamed (state S.Store conn.old) (state S.Store conn.new) result }
 {
     match says_other_version(conn) {
         Ok(true) => OpenFault::OtherVersion,
@@ -49,6 +52,7 @@ fn make<S: Alter + Drop>(
     ensures later { IfOk result (λ both. IsLater (state S.Store conn) (state S.Store both.tables.connection)) }
     ensures handed { IfErr result (λ e. IsLater (state S.Store conn) (state S.Store e.1)) }
     ensures kept { IfErr result (λ e. HasCleanDisk (state S.Store e.1) → KeepsCommitted (state S.Store conn) (state S.Store e.1)) }
+    ensures refused { IfErr result (λ e. ¬ IsRefusal e.0) }
     ensures blame { IfErr result (λ e. HasCleanDisk (state S.Store e.1) → IsBlamed (state S.Store conn) (state S.Store e.1) e.0) }
 {
     match SqlRegister::new(conn, limit) {
@@ -72,7 +76,8 @@ fn find<S: Alter + Drop, P: Progress>(
     ensures later { IfOk result (λ both. IsLater (state S.Store conn) (state S.Store both.tables.connection)) }
     ensures handed { IfErr result (λ e. IsLater (state S.Store conn) (state S.Store e.1)) }
     ensures kept { IfErr result (λ e. HasCleanDisk (state S.Store e.1) → KeepsCommitted (state S.Store conn) (state S.Store e.1)) }
-    ensures blame { IfErr result (λ e. HasCleanDisk (state S.Store e.1) → (tables S.Store conn).schema ≡ desk_schema → IsBlamed (state S.Store conn) (state S.Store e.1) e.0) }
+    ensures refused { IfErr result (λ e. HasCleanDisk (state S.Store e.1) → IsRefusal e.0 → (content : Content) → ¬ IsAudited (tables S.Store conn) limit content) }
+    ensures blame { IfErr result (λ e. HasCleanDisk (state S.Store e.1) → IsBlamed (state S.Store conn) (state S.Store e.1) e.0) }
 {
     let mut memory = ListRegister::new(alloc, limit);
     match audit(alloc, &mut conn, &mut memory, progress) {
@@ -106,7 +111,8 @@ pub fn take_over<S: Alter + Drop, P: Progress>(
     ensures later { IfOk result (λ both. IsLater (state S.Store conn) (state S.Store both.tables.connection)) }
     ensures handed { IfErr result (λ e. IsLater (state S.Store conn) (state S.Store e.1)) }
     ensures kept { IfErr result (λ e. HasCleanDisk (state S.Store e.1) → KeepsCommitted (state S.Store conn) (state S.Store e.1)) }
-    ensures blame { IfErr result (λ e. HasCleanDisk (state S.Store e.1) → ((tables S.Store conn).schema ≡ no_schema) ⊎ ((tables S.Store conn).schema ≡ desk_schema) → IsBlamed (state S.Store conn) (state S.Store e.1) e.0) }
+    ensures refused { IfErr result (λ e. HasCleanDisk (state S.Store e.1) → IsRefusal e.0 → ¬ IsDesks limit (tables S.Store conn)) }
+    ensures blame { IfErr result (λ e. HasCleanDisk (state S.Store e.1) → IsBlamed (state S.Store conn) (state S.Store e.1) e.0) }
 {
     if has_no_table(&conn) {
         make(alloc, conn, limit)

@@ -2,13 +2,14 @@
 ghost use Rattle.std.specs.Prelude.{◌≡◌, false, Err, IfErr, IsTrue, OnOk};
 ghost use Rattle.sqlite.specs.Held.{state};
 ghost use Rattle.sqlite.specs.State.{HasCleanDisk};
-ghost use Rattle.sql_tables.specs.Calls.{FailsForCause, Soundly};
+ghost use Rattle.sql_tables.specs.Calls.{FailsForCause};
 ghost use Rattle.sql_tables.specs.Control.{Begins};
+ghost use Rattle.sql_tables.specs.Ends.{SaysWhy};
 ghost use Rattle.desk_file.specs.Spared.{Spares};
 
 use sql_tables::version::VERSION;
 use sqlite::types::ValueRef;
-use sqlite::{Alter, Connection, Error, ErrorCode, Row};
+use sqlite::{Alter, Connection, Error, Row};
 use sqlite_schema::names::same_name;
 
 /// Begins a transaction, whatever tables there are: what is read of tables that nobody knows is given up afterwards.
@@ -24,7 +25,7 @@ fn begin<S: Alter>(conn: &mut Connection<S>) -> Result<usize, Error>
 /// The versions that a table `version` says, two of them at most.
 fn versions<S: Alter>(conn: &mut Connection<S>) -> Result<Vec<Row>, Error>
     ensures spares { (HasCleanDisk (state S.Store conn.old) → IsTrue (state S.Store conn.old).in_transaction) → Spares (state S.Store conn.old) (state S.Store conn.new) }
-    ensures blame { Soundly S.Store conn.old conn.new (FailsForCause S.Store conn.old conn.new result) }
+    ensures why { HasCleanDisk (state S.Store conn.new) → IsTrue (state S.Store conn.old).is_open → IfErr result (SaysWhy (state S.Store conn.old) (state S.Store conn.new)) }
 {
     conn.query_all("SELECT number FROM version LIMIT 2", &[])
 }
@@ -35,21 +36,6 @@ fn has_versions<S: Alter>(conn: &Connection<S>) -> bool {
         table.name.as_slice(),
         "version".as_bytes(),
     ))
-}
-
-/// Whether an error is one of memory or of the device. Any other is one of what was asked.
-fn is_failure(error: &Error) -> bool {
-    match error {
-        Error::SqliteFailure(
-            ErrorCode::OutOfMemory
-            | ErrorCode::TooBig
-            | ErrorCode::SystemIoFailure
-            | ErrorCode::DatabaseCorrupt
-            | ErrorCode::DiskFull
-            | ErrorCode::Closed,
-        ) => true,
-        _ => false,
-    }
 }
 
 /// Whether rows are the one of another version.
@@ -63,14 +49,15 @@ fn are_other(rows: &[Row]) -> bool {
     }
 }
 
-/// What shown versions come to, or why none is shown.
-fn told(shown: Result<Vec<Row>, Error>) -> Result<bool, Error>
-    ensures { IfErr result (λ e. shown ≡ Err e) }
+/// What shown versions come to. Where none are shown though the transaction is still open, there are none to read; where it was
+/// taken back, memory is wanting or the device failed.
+fn told<S: Alter>(conn: &Connection<S>, shown: Result<Vec<Row>, Error>) -> Result<bool, Error>
+    ensures { IfErr result (λ e. (shown ≡ Err e) × ((state S.Store conn.now).in_transaction ≡ false)) }
 {
     match shown {
         Ok(rows) => Ok(are_other(&rows)),
         Err(error) => {
-            if is_failure(&error) {
+            if conn.is_autocommit() {
                 Err(error)
             } else {
                 Ok(false)
@@ -83,11 +70,12 @@ fn told(shown: Result<Vec<Row>, Error>) -> Result<bool, Error>
 /// be left open. One that has no such table says none.
 pub fn says_other_version<S: Alter>(conn: &mut Connection<S>) -> Result<bool, Error>
     ensures spares { Spares (state S.Store conn.old) (state S.Store conn.new) }
-    ensures blame { Soundly S.Store conn.old conn.new ((state S.Store conn.old).in_transaction ≡ false → FailsForCause S.Store conn.old conn.new result) }
+    ensures blame { HasCleanDisk (state S.Store conn.new) → IsTrue (state S.Store conn.old).is_open → (state S.Store conn.old).in_transaction ≡ false → FailsForCause S.Store conn.old conn.new result }
 {
     if !has_versions(conn) {
         return Ok(false);
     }
     begin(conn)?;
-    told(versions(conn))
+    let shown = versions(conn);
+    told(conn, shown)
 }

@@ -6,7 +6,9 @@ ghost use Rattle.desk_engine.specs.Accepting.{IsDone};
 ghost use Rattle.desk_register.specs.View.{IfTrusted, IsLater};
 ghost use Rattle.desk_engine.specs.KeptHistory.{HoldsKept};
 ghost use Rattle.desk_rules.specs.declared.limits.TheConstants.{MOST_ENTRIES};
+ghost use Rattle.desk_rules.specs.Content.{Content};
 ghost use Rattle.sql_tables.specs.Calls.{Soundly, tables};
+ghost use Rattle.sql_tables.specs.Ends.{IsSame};
 ghost use Rattle.sql_tables.specs.Making.{KeepsCommitted};
 ghost use Rattle.sql_tables.specs.Schema.{desk_schema};
 ghost use Rattle.sql_tables.specs.Forms.{AreAllFormed};
@@ -88,7 +90,9 @@ pub fn audit<S: Alter, R: Messages, P: Progress>(
     ensures whole { HasCleanDisk (state S.Store conn.new) → IsTrue (state S.Store conn.old).is_open → IfTrusted (R.Register.view register.old) (R.Register.view register.new)
         (AreInOrder (tables S.Store conn.old).schema (tables S.Store conn.old).trees → (R.Register.view register.old).room ≤ MOST_ENTRIES
         → IfOk result (λ audited. audited ≡ Audited.Whole → IsAudited (tables S.Store conn.old) (R.Register.view register.old).room (R.Register.view register.new).content)) }
+    ensures exact { HasCleanDisk (state S.Store conn.new) → IsTrue (state S.Store conn.old).is_open → IfTrusted (R.Register.view register.old) (R.Register.view register.new) ((content : Content) → IsAudited (tables S.Store conn.old) (R.Register.view register.old).room content → IfOk result (λ audited. audited ≡ Audited.Whole)) }
     ensures holds { IfTrusted (R.Register.view register.old) (R.Register.view register.new) (IfOk result (λ audited. audited ≡ Audited.Whole → HoldsFormed (R.Register.view register.old).room (R.Register.view register.new).content)) }
+    ensures same { HasCleanDisk (state S.Store conn.new) → IsTrue (state S.Store conn.old).is_open → OnOk result (IsSame (state S.Store conn.old) (state S.Store conn.new)) }
     ensures kept { HasCleanDisk (state S.Store conn.new) → IsTrue (state S.Store conn.old).is_open → KeepsCommitted (state S.Store conn.old) (state S.Store conn.new) }
     ensures other_tables { IfOk result (λ audited. audited ≡ Audited.OtherTables → (tables S.Store conn.old).schema ≢ desk_schema) }
     ensures look { Audits S.Store conn.old conn.new result }

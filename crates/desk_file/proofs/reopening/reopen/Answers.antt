@@ -1,9 +1,11 @@
 use Rattle.std.proofs.Common.{◌≡◌, ◌∙◌, arith, false, sym, subst, IsTrue}
 use Rattle.sqlite.specs.Effect.{Database}
 use Rattle.sqlite.specs.Held.{state}
+use Rattle.sqlite_trees.specs.Tree.{Trees}
 use Rattle.sqlite_trees.specs.View.{IsClean}
+use Rattle.sqlite_catalog.specs.Listing.{IsSound}
 use Rattle.sql_tables.specs.Order.{AreInOrder}
-use Rattle.desk_file.proofs.ReopenLemmas.{committed_back, committed_stays, in_order, joined_err, joined_ok, same_database, trees_back, was_open, whole_is_open}
+use Rattle.desk_file.proofs.ReopenLemmas.{committed_back, committed_stays, in_order, joined_err, joined_ok, not_refused, same_database, trees_back, was_open, whole_is_open}
 use Rattle.desk_file.proofs.reopening.reopen.Goals as goal
 
 pub returns-clause-open : goal.returns-clause-open
@@ -51,3 +53,18 @@ returns-clause-back g c =
       committed = committed_stays g.S.Store.view g.S.Store.faults g.S.Store.recovers g.S.Store.is_shielded s e.1 g.met.S.Store.settled g.met.S.Store.stays quiet open_s now ∙ committed_back _ v undone clean_s open_s;
     })
     c.over.ensures.unharmed c.over.ensures.rows
+
+pub returns-clause-sound : goal.returns-clause-sound
+returns-clause-sound g c =
+    let s = c.into_store-store.result in
+    let v = g.S.Store.view s in
+    let s0 = state g.S.Store c.args.conn in
+    let undone = c.into_store-store.ensures.undone in
+    joined_err _ _ _ c.over.result
+    (λ e quiet fails clean.
+    let clean_s : IsClean v = omega (arith, clean, quiet.clean) in
+    let whole : v.is_broken ≡ false = sym (c.is_broken.ensures clean_s) ∙ c.if-is_broken.false in
+    let now : IsTrue v.is_open = whole_is_open v (g.met.S.Store.broken_if_shut s) whole in
+    let live = c.is_live.ensures (was_open _ v undone clean_s now) in
+    not_refused s0.committed.schema v.trees _ e.0 (subst (λ (t : Trees). IsSound s0.committed.schema t) (sym (trees_back _ v undone clean_s now)) live.1) (fails clean))
+    c.over.ensures.unharmed c.over.ensures.err

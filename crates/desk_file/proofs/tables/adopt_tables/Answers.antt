@@ -10,3 +10,6 @@ returns-clause-which g c = search (rules, alone_finds)
 
 pub returns-clause-back : goal.returns-clause-back
 returns-clause-back g c = search (rules, alone_fault)
+
+pub returns-clause-refused : goal.returns-clause-refused
+returns-clause-refused g c = search (rules, alone_fault)

@@ -9,5 +9,5 @@ pub returns-clause-spares : goal.returns-clause-spares
 returns-clause-spares g c =
     let s0 = state g.S.Store c.args.conn.now in
     let s1 = state g.S.Store c.begin.new.conn in
-    let s2 = state g.S.Store c.versions.new.conn in
-    spares_then s0 s1 s2 c.in_ok-begin.ensures.spares (c.versions.ensures.spares c.in_ok-begin.ensures.inside)
+    let s2 = state g.S.Store c.versions-shown.new.conn in
+    spares_then s0 s1 s2 c.in_ok-begin.ensures.spares (c.versions-shown.ensures.spares c.in_ok-begin.ensures.inside)
