@@ -8,6 +8,7 @@ pub mod Faults
 pub mod Left
 pub mod Mirrored
 pub mod Opened
+pub mod OtherVersion
 pub mod Outline
 pub mod Parts
 pub mod Reading

@@ -1,5 +1,5 @@
 //! Why a database is not opened.
-ghost use Rattle.std.specs.Prelude.{◌≡◌};
+ghost use Rattle.std.specs.Prelude.{◌≡◌, ◌≢◌};
 ghost use Rattle.desk_file.specs.Faults.{audit_fault_for, fault_for, files_fault_for, number_of_fault, opening_fault_for, IsRefusal};
 
 use crate::audit::rest::Table;
@@ -63,7 +63,8 @@ pub fn fault_of(error: &Error) -> OpenFault
 
 /// What a failure to open a database comes to, of which the library says where there is none.
 pub fn fault_of_opening(error: &Error) -> OpenFault
-    ensures { result ≡ opening_fault_for error.now }
+    ensures value { result ≡ opening_fault_for error.now }
+    ensures no_version { result ≢ OpenFault.OtherVersion }
 {
     match error {
         Error::SqliteFailure(ErrorCode::NotADatabase) => {
@@ -76,7 +77,8 @@ pub fn fault_of_opening(error: &Error) -> OpenFault
 /// What a failure to open files comes to. The library calls files corrupt where it refuses what they hold, and where its device
 /// gave other bytes than it took, which it counts: `is_caught`.
 pub fn fault_of_files(error: &Error, is_caught: bool) -> OpenFault
-    ensures { result ≡ files_fault_for is_caught error.now }
+    ensures value { result ≡ files_fault_for is_caught error.now }
+    ensures no_version { result ≢ OpenFault.OtherVersion }
 {
     if is_caught {
         return fault_of_opening(error);

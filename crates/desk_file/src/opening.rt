@@ -11,6 +11,7 @@ ghost use Rattle.desk_file.specs.Desks.{IsDesks, IsDesksIn};
 ghost use Rattle.desk_file.specs.Faults.{IsRefusal};
 ghost use Rattle.desk_file.specs.Left.{HasFailed, LeavesIn};
 ghost use Rattle.desk_file.specs.Opened.{Finds, FindsIn, IsHandedBack, IsOpened};
+ghost use Rattle.desk_file.specs.OtherVersion.{SaysOther, SaysOtherIn};
 ghost use Rattle.desk_file.specs.declared.fault.OpenFault.TheVariants.{Storage};
 
 use crate::audit::progress::{Progress, Silent};
@@ -41,6 +42,7 @@ pub fn adopt<S: Alter + Drop>(
     ensures which { IfOk result (λ both. HasCleanDisk (state S.Store both.tables.connection) → Finds (state S.Store conn).committed (state S.Store both.tables.connection).committed (view_of_lists both.memory).content) }
     ensures back { IfErr result (λ e. IsClean (S.Store.view e.1) → IsTrue (S.Store.view e.1).is_open → IsHandedBack (S.Store.view e.1) (state S.Store conn)) }
     ensures refused { IfErr result (λ e. IsClean (S.Store.view e.1) → IsRefusal e.0 → ¬ IsDesks limit (state S.Store conn).committed) }
+    ensures other { IfErr result (λ e. IsClean (S.Store.view e.1) → e.0 ≡ OpenFault.OtherVersion → SaysOther S.Store (state S.Store conn).committed) }
     ensures blame { IfErr result (λ e. IsClean (S.Store.view e.1) → IsTrue (state S.Store conn).is_open → e.0 ≡ Storage → 0 < S.Store.faults e.1) }
 {
     let conn = match reopen(alloc, conn) {
@@ -74,6 +76,7 @@ pub fn open_file<S: Start, P: Progress>(
     ensures which { IfOk result (λ both. HasCleanDisk (file_state both.tables.connection) → FindsIn (image_at S.Start) (file_state both.tables.connection).committed (view_of_lists both.memory).content) }
     ensures back { IfErr result (λ e. IfSome e.1 (λ left. IsCleanLeft left → LeavesIn (image_at S.Start) left)) }
     ensures refused { IfErr result (λ e. IsRefusal e.0 → IsSomeAnd e.1 (λ left. IsCleanLeft left → ¬ IsDesksIn limit (image_at S.Start))) }
+    ensures other { IfErr result (λ e. e.0 ≡ OpenFault.OtherVersion → IsSomeAnd e.1 (λ left. IsCleanLeft left → SaysOtherIn (image_at S.Start) left)) }
     ensures blame { IfErr result (λ e. e.0 ≡ Storage → IfSome e.1 (λ left. IsCleanLeft left → HasFailed left)) }
 {
     let conn = match open_in_order(rt, path, start) {

@@ -10,6 +10,7 @@ ghost use Rattle.desk_file.specs.Desks.{IsDesks, IsDesksIn};
 ghost use Rattle.desk_file.specs.Faults.{IsRefusal};
 ghost use Rattle.desk_file.specs.Left.{HasFailed, LeavesIn};
 ghost use Rattle.desk_file.specs.Opened.{IsHandedBack};
+ghost use Rattle.desk_file.specs.OtherVersion.{SaysOther, SaysOtherIn};
 ghost use Rattle.desk_file.specs.declared.fault.OpenFault.TheVariants.{Storage};
 
 use crate::audit::progress::Silent;
@@ -45,6 +46,7 @@ pub fn adopt_tables<S: Alter + Drop>(
     ensures which { IfOk result (AreFoundOf S.Store (state S.Store conn).committed) }
     ensures back { IfErr result (λ e. IsClean (S.Store.view e.1) → IsTrue (S.Store.view e.1).is_open → IsHandedBack (S.Store.view e.1) (state S.Store conn)) }
     ensures refused { IfErr result (λ e. IsClean (S.Store.view e.1) → IsRefusal e.0 → ¬ IsDesks limit (state S.Store conn).committed) }
+    ensures other { IfErr result (λ e. IsClean (S.Store.view e.1) → e.0 ≡ OpenFault.OtherVersion → SaysOther S.Store (state S.Store conn).committed) }
     ensures blame { IfErr result (λ e. IsClean (S.Store.view e.1) → IsTrue (state S.Store conn).is_open → e.0 ≡ Storage → 0 < S.Store.faults e.1) }
 {
     alone(adopt(alloc, conn, limit))
@@ -62,6 +64,7 @@ pub fn open_tables<S: Start>(
     ensures which { IfOk result (AreFoundIn over_files (image_at S.Start)) }
     ensures back { IfErr result (λ e. IfSome e.1 (λ left. IsCleanLeft left → LeavesIn (image_at S.Start) left)) }
     ensures refused { IfErr result (λ e. IsRefusal e.0 → IsSomeAnd e.1 (λ left. IsCleanLeft left → ¬ IsDesksIn limit (image_at S.Start))) }
+    ensures other { IfErr result (λ e. e.0 ≡ OpenFault.OtherVersion → IsSomeAnd e.1 (λ left. IsCleanLeft left → SaysOtherIn (image_at S.Start) left)) }
     ensures blame { IfErr result (λ e. e.0 ≡ Storage → IfSome e.1 (λ left. IsCleanLeft left → HasFailed left)) }
 {
     alone(open_file(rt, path, start, limit, &mut Silent))

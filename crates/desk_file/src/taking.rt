@@ -13,6 +13,7 @@ ghost use Rattle.desk_file.specs.Audited.{IsAudited};
 ghost use Rattle.desk_file.specs.Desks.{IsDesks};
 ghost use Rattle.desk_file.specs.Faults.{IsBlamed, IsRefusal};
 ghost use Rattle.desk_file.specs.Opened.{Finds, IsOpened, StandsOpen};
+ghost use Rattle.desk_file.specs.OtherVersion.{SaysOther};
 ghost use Rattle.desk_file.specs.Spared.{Spares};
 
 use crate::audit::auditing::{Audited, audit};
@@ -29,6 +30,7 @@ use std::alloc::Global;
 fn refusal<S: Alter>(conn: &mut Connection<S>) -> OpenFault
     ensures spares { Spares (state S.Store conn.old) (state S.Store conn.new) }
     ensures blame { HasCleanDisk (state S.Store conn.new) → IsTrue (state S.Store conn.old).is_open → (state S.Store conn.old).in_transaction ≡ false → (state S.Store conn.old).step_limit ≡ None → IsBlamed (state S.Store conn.old) (state S.Store conn.new) result }
+    ensures other { HasCleanDisk (state S.Store conn.new) → result ≡ OpenFault.OtherVersion → SaysOther S.Store (tables S.Store conn.old) }
 {
     match says_other_version(conn) {
         Ok(true) => OpenFault::OtherVersion,
@@ -77,6 +79,7 @@ fn find<S: Alter + Drop, P: Progress>(
     ensures handed { IfErr result (λ e. IsLater (state S.Store conn) (state S.Store e.1)) }
     ensures kept { IfErr result (λ e. HasCleanDisk (state S.Store e.1) → KeepsCommitted (state S.Store conn) (state S.Store e.1)) }
     ensures refused { IfErr result (λ e. HasCleanDisk (state S.Store e.1) → IsRefusal e.0 → (content : Content) → ¬ IsAudited (tables S.Store conn) limit content) }
+    ensures other { IfErr result (λ e. HasCleanDisk (state S.Store e.1) → e.0 ≡ OpenFault.OtherVersion → SaysOther S.Store (tables S.Store conn)) }
     ensures blame { IfErr result (λ e. HasCleanDisk (state S.Store e.1) → IsBlamed (state S.Store conn) (state S.Store e.1) e.0) }
 {
     let mut memory = ListRegister::new(alloc, limit);
@@ -112,6 +115,7 @@ pub fn take_over<S: Alter + Drop, P: Progress>(
     ensures handed { IfErr result (λ e. IsLater (state S.Store conn) (state S.Store e.1)) }
     ensures kept { IfErr result (λ e. HasCleanDisk (state S.Store e.1) → KeepsCommitted (state S.Store conn) (state S.Store e.1)) }
     ensures refused { IfErr result (λ e. HasCleanDisk (state S.Store e.1) → IsRefusal e.0 → ¬ IsDesks limit (tables S.Store conn)) }
+    ensures other { IfErr result (λ e. HasCleanDisk (state S.Store e.1) → e.0 ≡ OpenFault.OtherVersion → SaysOther S.Store (tables S.Store conn)) }
     ensures blame { IfErr result (λ e. HasCleanDisk (state S.Store e.1) → IsBlamed (state S.Store conn) (state S.Store e.1) e.0) }
 {
     if has_no_table(&conn) {

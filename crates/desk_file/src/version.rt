@@ -1,10 +1,11 @@
 //! Whether a database that is not the desk's tells the version of another.
-ghost use Rattle.std.specs.Prelude.{◌≡◌, false, Err, IfErr, IsTrue, OnOk};
+ghost use Rattle.std.specs.Prelude.{◌≡◌, [], false, Err, IfErr, IfOk, IsOkAnd, IsTrue, OnOk};
 ghost use Rattle.sqlite.specs.Held.{state};
-ghost use Rattle.sqlite.specs.State.{HasCleanDisk};
-ghost use Rattle.sql_tables.specs.Calls.{FailsForCause};
+ghost use Rattle.sqlite.specs.State.{HasCleanDisk, Shown};
+ghost use Rattle.sql_tables.specs.Calls.{FailsForCause, tables};
 ghost use Rattle.sql_tables.specs.Control.{Begins};
 ghost use Rattle.sql_tables.specs.Ends.{SaysWhy};
+ghost use Rattle.desk_file.specs.OtherVersion.{versions_text, AreOther, SaysOther};
 ghost use Rattle.desk_file.specs.Spared.{Spares};
 
 use sql_tables::version::VERSION;
@@ -26,6 +27,7 @@ fn begin<S: Alter>(conn: &mut Connection<S>) -> Result<usize, Error>
 fn versions<S: Alter>(conn: &mut Connection<S>) -> Result<Vec<Row>, Error>
     ensures spares { (HasCleanDisk (state S.Store conn.old) → IsTrue (state S.Store conn.old).in_transaction) → Spares (state S.Store conn.old) (state S.Store conn.new) }
     ensures why { HasCleanDisk (state S.Store conn.new) → IsTrue (state S.Store conn.old).is_open → IfErr result (SaysWhy (state S.Store conn.old) (state S.Store conn.new)) }
+    ensures shown { HasCleanDisk (state S.Store conn.new) → IfOk result (λ rows. Shown versions_text [] (state S.Store conn.old) (state S.Store conn.new) rows.items) }
 {
     conn.query_all("SELECT number FROM version LIMIT 2", &[])
 }
@@ -39,7 +41,9 @@ fn has_versions<S: Alter>(conn: &Connection<S>) -> bool {
 }
 
 /// Whether rows are the one of another version.
-fn are_other(rows: &[Row]) -> bool {
+fn are_other(rows: &[Row]) -> bool
+    ensures { IsTrue result → AreOther rows.now }
+{
     match rows {
         [row] => match row.get_ref(0) {
             Ok(ValueRef::Int(number)) => number != VERSION as i64,
@@ -52,7 +56,8 @@ fn are_other(rows: &[Row]) -> bool {
 /// What shown versions come to. Where none are shown though the transaction is still open, there are none to read; where it was
 /// taken back, memory is wanting or the device failed.
 fn told<S: Alter>(conn: &Connection<S>, shown: Result<Vec<Row>, Error>) -> Result<bool, Error>
-    ensures { IfErr result (λ e. (shown ≡ Err e) × ((state S.Store conn.now).in_transaction ≡ false)) }
+    ensures other { IfOk result (λ says. IsTrue says → IsOkAnd shown (λ rows. AreOther rows.items)) }
+    ensures none { IfErr result (λ e. (shown ≡ Err e) × ((state S.Store conn.now).in_transaction ≡ false)) }
 {
     match shown {
         Ok(rows) => Ok(are_other(&rows)),
@@ -71,6 +76,7 @@ fn told<S: Alter>(conn: &Connection<S>, shown: Result<Vec<Row>, Error>) -> Resul
 pub fn says_other_version<S: Alter>(conn: &mut Connection<S>) -> Result<bool, Error>
     ensures spares { Spares (state S.Store conn.old) (state S.Store conn.new) }
     ensures blame { HasCleanDisk (state S.Store conn.new) → IsTrue (state S.Store conn.old).is_open → (state S.Store conn.old).in_transaction ≡ false → FailsForCause S.Store conn.old conn.new result }
+    ensures other { HasCleanDisk (state S.Store conn.new) → IfOk result (λ says. IsTrue says → SaysOther S.Store (tables S.Store conn.old)) }
 {
     if !has_versions(conn) {
         return Ok(false);

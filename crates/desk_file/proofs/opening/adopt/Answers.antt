@@ -5,6 +5,7 @@ use Rattle.sqlite.specs.State.{HasCleanDisk}
 use Rattle.memory_register.specs.ListsView.{view_of_lists}
 use Rattle.desk_file.specs.Desks.{IsDesks}
 use Rattle.desk_file.specs.Opened.{Finds}
+use Rattle.desk_file.specs.OtherVersion.{SaysOther}
 use Rattle.desk_file.proofs.opening.adopt.Goals as goal
 
 pub take_over-requires-clause-unlimited : goal.take_over-requires-clause-unlimited
@@ -34,3 +35,10 @@ returns-in-Err-take_over-clause-refused g c = λ clean is desks.
     let clean1 : HasCleanDisk s1 = omega (arith, clean2, c.in-Err-take_over.ensures.handed.clean) in
     c.in-Err-take_over.ensures.refused clean2 is
     (subst (IsDesks c.args.limit) (sym ((c.in-Ok.ensures.open clean1).opens.clean ∙ c.in-Ok.ensures.same clean1)) desks)
+
+pub returns-in-Err-take_over-clause-other : goal.returns-in-Err-take_over-clause-other
+returns-in-Err-take_over-clause-other g c = λ clean is.
+    let s1 = state g.S.Store c.in-Ok.conn in
+    let clean2 : HasCleanDisk (state g.S.Store c.in-Err-take_over.conn) = c.give_up.ensures.clean clean in
+    let clean1 : HasCleanDisk s1 = omega (arith, clean2, c.in-Err-take_over.ensures.handed.clean) in
+    subst (SaysOther g.S.Store) ((c.in-Ok.ensures.open clean1).opens.clean ∙ c.in-Ok.ensures.same clean1) (c.in-Err-take_over.ensures.other clean2 is)

@@ -13,3 +13,6 @@ returns-clause-back g c = search (rules, alone_fault)
 
 pub returns-clause-refused : goal.returns-clause-refused
 returns-clause-refused g c = search (rules, alone_fault)
+
+pub returns-clause-other : goal.returns-clause-other
+returns-clause-other g c = search (rules, alone_fault)

@@ -19,3 +19,6 @@ returns-clause-refused g c = search (rules, alone_fault)
 
 pub returns-clause-blame : goal.returns-clause-blame
 returns-clause-blame g c = search (rules, alone_fault)
+
+pub returns-clause-other : goal.returns-clause-other
+returns-clause-other g c = alone_fault _ c.open_file.result c.alone.result c.alone.ensures c.open_file.ensures.other

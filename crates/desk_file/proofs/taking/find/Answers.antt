@@ -8,6 +8,7 @@ use Rattle.desk_file.specs.Reading.{HoldsFormed}
 use Rattle.sql_register.specs.Content.{content_in}
 use Rattle.sql_tables.specs.Ends.{IsSame}
 use Rattle.desk_file.specs.Opened.{Finds, KeepAudited, StandsOpen}
+use Rattle.desk_file.specs.OtherVersion.{SaysOther}
 use Rattle.desk_file.proofs.FoundLemmas.{finds, keeps, order_now, same_content}
 use Rattle.desk_file.proofs.OpenedLemmas.{found_as, opened_as}
 use Rattle.desk_file.proofs.taking.find.Goals as goal
@@ -63,3 +64,13 @@ returns-in-Ok-Whole-clause-which g c =
     found_as g.S.Store c.args.limit both.result c.audit.new.register c.over.result both.ensures.memory both.ensures.tables s0.committed
     (subst (λ (h : Held g.row.S.Denot). HasCleanDisk (state g.S.Store h) → Finds s0.committed (state g.S.Store h).committed content) (sym c.over.ensures.connection)
     (λ clean. finds s0 s1 (stood clean) (same clean) c.args.limit content (audited clean)))
+
+pub returns-in-Ok-OtherTables-clause-other : goal.returns-in-Ok-OtherTables-clause-other
+returns-in-Ok-OtherTables-clause-other g c = λ clean is.
+    let s0 = state g.S.Store c.args.conn in
+    let s1 = state g.S.Store c.audit.new.conn in
+    let a = c.in-Ok-OtherTables.ensures in
+    let told = c.refusal-fault.ensures in
+    let clean1 : HasCleanDisk s1 = (let less = told.spares.later.clean in omega (arith, clean, less)) in
+    let clean0 : HasCleanDisk s0 = (let less = a.look.later.clean in omega (arith, clean1, less)) in
+    subst (SaysOther g.S.Store) (a.same clean1 (c.requires.open clean0).opens.is_open).now (told.other clean is)

@@ -1,0 +1,42 @@
+-- A database that tells another version than this.
+use Rattle.std.specs.Prelude.{◌≡◌, ◌≢◌, ℕ, ℤ, pos, List, [], ◌∷◌, codes}
+use Rattle.sqlite.specs.Effect.{Database, IsDatabase}
+use Rattle.sqlite.specs.Files.{over_files, AreFoundIn, HoldsDatabase}
+use Rattle.sqlite.specs.Held.{Held, state}
+use Rattle.sqlite.specs.State.{Shown}
+use Rattle.sqlite.specs.declared.file.Leftover.{Leftover}
+use Rattle.sqlite.specs.declared.types.Value.TheVariants.{Int}
+use Rattle.sqlite_disk.specs.declared.Disk as disk
+use Rattle.sqlite_trees.specs.Tree.{Trees}
+use Rattle.sqlite_trees.specs.declared.store.Store.{Ghosts}
+use Rattle.sqlite_value.specs.Order.{Row, column}
+use Rattle.sqlite_wal.specs.Recovery.{Image}
+
+-- the text that asks which versions a table `version` says, of which two are enough
+abbrev pub versions_text : List ℕ
+versions_text = codes "SELECT number FROM version LIMIT 2"
+
+-- what is shown is one row, which says another number than 3
+pub record AreOther (rows : List Row) : Type 0 where
+  pub row : Row
+  pub number : ℤ
+  pub only : rows ≡ row ∷ []
+  pub says : column row 0 ≡ Int number
+  pub other : number ≢ pos 3
+
+-- a connection to this database that is asked for its versions shows that
+pub record SaysOther {S : Type 0} (store : Ghosts S) (db : Database) : Type 0 where
+  pub asked : Held S
+  pub over : (state store asked).now ≡ db
+  pub answered : Held S
+  pub rows : List Row
+  pub shown : Shown versions_text [] (state store asked) (state store answered) rows
+  pub other : AreOther rows
+
+-- the same of the database that was found in files, of which this is left
+pub record SaysOtherIn {D : Type 0} {g : disk.Ghosts D} (image : Image) (left : Leftover D g) : Type 0 where
+  pub db : Database
+  pub is : IsDatabase db
+  pub reads : AreFoundIn image db.trees
+  pub only : (trees : Trees) → HoldsDatabase image trees → db.trees ≡ trees
+  pub says : SaysOther (over_files {g = g}) db
