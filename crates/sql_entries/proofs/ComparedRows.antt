@@ -1,9 +1,9 @@
 -- What the texts show of the rows of `register`.
-use Rattle.std.proofs.Common.{◌≡◌, ◌<◌, ℕ, List, [], ◌∷◌, length, map, filter, get_or, nat_lt, true, codes, refl, sym, ap, subst, ◌∙◌, arith, ℤ, Ok, Err, Result, IfErr, IfOk, IsTrue, Vec}
+use Rattle.std.proofs.Common.{◌≡◌, ◌<◌, ◌==◌, ◌↔◌, ℕ, zero, suc, Bool, false, List, [], ◌∷◌, length, map, filter, get_or, nat_lt, true, codes, refl, sym, ap, subst, ◌∙◌, arith, ℤ, Ok, Err, Result, IfErr, IfOk, IsTrue, Vec}
 use Rattle.std.specs.declared.alloc.Global.{Global}
 use Rattle.std.specs.List.{list_all, AllByRecursion}
 use Rattle.std.specs.List.Sorted.{IsPermutation}
-use Rattle.std.proofs.lemmas.Bool.{and_parts, ltb-true}
+use Rattle.std.proofs.lemmas.Bool.{and_parts, eqb-true, ltb-true}
 use Rattle.std.proofs.lemmas.List.{get_or-map, length-map}
 use Rattle.std.proofs.lemmas.List.Sorted.{IsPermutation-refl, IsPermutation-sym}
 use Rattle.sqlite.specs.declared.error.Error.{Error}
@@ -30,14 +30,16 @@ use Rattle.sql_tables.specs.Queries.{equals}
 use Rattle.sql_tables.proofs.ShownLemmas.{IsPlainQuery, plain_caused}
 use Rattle.sql_tables.specs.Forms.{HasForm}
 use Rattle.sql_entries.specs.Entries.{given, values_of}
-use Rattle.sql_tables.specs.ByNumber.{above, below, has_number, HasOne}
+use Rattle.sql_tables.specs.ByNumber.{above, below, has_number, is_above, is_below, HasNoOther, HasOne}
+use Rattle.sql_tables.specs.Plain.{IsPlain}
 use Rattle.sql_tables.specs.Whole.{shown_by}
-use Rattle.sql_tables.proofs.ByNumberLemmas.{is_its_row}
+use Rattle.sql_tables.proofs.ByNumberLemmas.{is_its_row, nothing_shown, nothing_there}
 use Rattle.sql_tables.proofs.RowLemmas.{IsNumbered}
 use Rattle.sql_entries.specs.declared.compared.Found.{Found}
 use Rattle.sql_entries.specs.declared.compared.Found.TheVariants.{Nothing, Another, Entry}
-use Rattle.sql_entries.specs.Found.{IsFound, IsShownAs}
+use Rattle.sql_entries.specs.Found.{IsFound, IsRowOf, IsShownAs, IsShownRow}
 use Rattle.sql_entries.specs.Rows.{shown, shown_kept}
+use Rattle.sql_entries.specs.Shown.{HasShortNumbers}
 use Rattle.sql_entries.proofs.CauseLemmas.{memory_caused}
 
 -- ---- the texts
@@ -128,6 +130,22 @@ found rows items shown_rows number (Ok Another) formed same is h = tt
 found rows items shown_rows number (Ok (Entry kept)) formed same is h = record { row = one_row rows items number kept formed same (sym is ∙ h.is); formed = h.formed }
 found rows items shown_rows number (Err e) formed same is h = tt
 
+-- where the row of a number is one that was written, it is all that is shown
+shown_there : (rows items : List Row) (number : ℕ) (kept : Kept) → IsPermutation (map shown (filter (has_number number) rows)) items → HasOne rows number (values_of kept.entry kept.reply) → items ≡ shown_kept number kept ∷ []
+shown_there rows items number kept same one = one_permutation (shown_kept number kept) items (subst (λ (mine : List Row). IsPermutation (map shown mine) items) one same)
+
+pub found_exact : (rows items shown_rows : List Row) (number : ℕ) (r : Result Found Error) → IsPermutation (map shown (filter (has_number number) rows)) items → shown_rows ≡ items
+    → ((kept : Kept) → IsShownRow shown_rows number kept → HasShortNumbers kept.reply → IfOk r (λ it. it ≡ Entry kept)) → (kept : Kept) → IsRowOf rows number kept → HasShortNumbers kept.reply → IfOk r (λ it. it ≡ Entry kept)
+found_exact rows items shown_rows number r same is exact kept row short = exact kept (record { is = is ∙ shown_there rows items number kept same row.row; formed = row.formed }) short
+
+pub nothing_found : (rows items shown_rows : List Row) (number : ℕ) (r : Result Found Error) → IsPermutation (map shown (filter (has_number number) rows)) items → shown_rows ≡ items
+    → IfOk r (λ it. (it ≡ Nothing) ↔ (shown_rows ≡ [])) → IfOk r (λ it. (it ≡ Nothing) ↔ (filter (has_number number) rows ≡ []))
+nothing_found rows items shown_rows number (Ok it) same is h = (
+  λ nothing. nothing_there shown (filter (has_number number) rows) items same (sym is ∙ h.0 nothing),
+  λ none. h.1 (is ∙ nothing_shown shown (filter (has_number number) rows) items same none),
+)
+nothing_found rows items shown_rows number (Err e) same is h = tt
+
 -- rows that are shown are as wide as the text names columns, and so a row is not read for want of memory alone
 as_wide : (rows : List Row) → AllByRecursion (λ row. length (shown row) ≡ 21) rows
 as_wide [] = tt
@@ -140,7 +158,36 @@ found_caused old new rows items shown_rows r same is fails =
     let wide : AllByRecursion Wide items = all-permutation Wide (map shown rows) items same (all-map Wide shown rows (as_wide rows)) in
     memory_caused old new r (fails (subst (AllByRecursion Wide) (sym is) wide))
 
+-- ---- no other number
+
+empty_of : (rows : List Row) → (length rows == 0) ≡ true → rows ≡ []
+empty_of [] none = refl
+empty_of (row ∷ rows) none = absurd (omega (arith, eqb-true (length (row ∷ rows)) 0 none))
+
+pub some_other : (tree : List Row) (count : ℕ) (shown_rows : List Row) (b : Bool) → (shown_rows ≡ []) ↔ (filter (is_above count) tree ≡ []) → b ≡ (length shown_rows == 0) → b ≡ false → IsTrue false ↔ HasNoOther tree count
+some_other tree count shown_rows b same is some = (
+  λ no. absurd cc,
+  λ none. sym some ∙ is ∙ ap (λ (xs : List Row). length xs == 0) (same.1 none.above),
+)
+
+pub none_other : (tree : List Row) (count : ℕ) (over under : List Row) (a b : Bool) → (over ≡ []) ↔ (filter (is_above count) tree ≡ []) → (under ≡ []) ↔ (filter (is_below 1) tree ≡ [])
+    → a ≡ (length over == 0) → a ≡ true → b ≡ (length under == 0) → IsTrue b ↔ HasNoOther tree count
+none_other tree count over under a b above_is below_is is_a none is_b = (
+  λ yes. record { above = above_is.0 (empty_of over (sym is_a ∙ none)); below = below_is.0 (empty_of under (sym is_b ∙ yes)) },
+  λ no_other. is_b ∙ ap (λ (xs : List Row). length xs == 0) (below_is.1 no_other.below),
+)
+
 -- ---- values in another order
+
+plain_at : (xs : List ValueRef) (k : ℕ) → AllByRecursion (λ value. IsPlain (owned value)) xs → IsPlain (owned (get_or xs k unset))
+plain_at [] zero all = tt
+plain_at [] (suc k) all = tt
+plain_at (x ∷ xs) zero all = all.0
+plain_at (x ∷ xs) (suc k) all = plain_at xs k all.1
+
+pub plain_reordered : (xs : List ValueRef) (places : List ℕ) → AllByRecursion (λ value. IsPlain (owned value)) xs → AllByRecursion (λ value. IsPlain (owned value)) (map (λ k. get_or xs k unset) places)
+plain_reordered xs [] all = tt
+plain_reordered xs (k ∷ ks) all = (plain_at xs k all, plain_reordered xs ks all)
 
 bound_at : (xs : List ValueRef) (ys : Row) (k : ℕ) → bound xs ≡ ys → k < length ys → bound_value (owned (get_or xs k unset)) ≡ get_or ys k Null
 bound_at xs ys k same low =

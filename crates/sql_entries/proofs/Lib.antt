@@ -3,6 +3,7 @@ pub mod CauseLemmas
 mod ComparedRows
 pub mod EffectLemmas
 pub mod EntryLemmas
+mod ExactLemmas
 pub mod FindingTexts
 pub mod FormedLemmas
 pub mod KeyLemmas

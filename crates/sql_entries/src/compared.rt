@@ -1,15 +1,25 @@
 //! The rows of `register` by their numbers.
-ghost use Rattle.std.specs.Prelude.{◌≡◌, ◌<◌, ◌^◌, ◌∷◌, [], length, map, filter, IsTrue, IfErr, IfOk};
+ghost use Rattle.std.specs.Prelude.{◌≡◌, ◌↔◌, ℕ, ◌<◌, ◌^◌, ◌∷◌, ◌++◌, [], length, map, filter, Some, IsTrue, IfErr, IfOk};
 ghost use Rattle.std.specs.List.{AllByRecursion};
 ghost use Rattle.std.specs.List.Sorted.{IsPermutation};
+ghost use Rattle.sqlite.specs.Order.{Row as Values};
 ghost use Rattle.sqlite.specs.Values.{bound};
 ghost use Rattle.sqlite.specs.declared.error.ErrorCode.TheVariants.{OutOfMemory};
+ghost use Rattle.sqlite_value.specs.Value.{owned};
+ghost use Rattle.desk_rules.specs.declared.answers.reply.Kept.{Kept as Pair};
+ghost use Rattle.desk_rules.specs.declared.answers.reply.Reply.{Reply as Answer};
+ghost use Rattle.desk_rules.specs.declared.history.entry.Entry.{Entry as AnyEntry};
+ghost use Rattle.desk_rules.specs.Spelt.{IsSpelt};
+ghost use Rattle.desk_rules.specs.WellFormed.{IsWellFormed};
 ghost use Rattle.sql_tables.specs.Calls.{FailsForCause, Looks, Soundly, tables};
 ghost use Rattle.sql_tables.specs.Schema.{register_table};
 ghost use Rattle.sql_tables.specs.Forms.{HasForm};
 ghost use Rattle.sql_tables.specs.ByNumber.{has_number, is_above, is_below, HasNoOther};
-ghost use Rattle.sql_entries.specs.Found.{IsFormed, IsFound, IsShownAs};
+ghost use Rattle.sql_tables.specs.Plain.{IsPlain};
+ghost use Rattle.sql_entries.specs.Found.{IsFormed, IsFound, IsRowOf, IsShownAs, IsShownRow};
+ghost use Rattle.sql_entries.specs.Reading.{SaysReply};
 ghost use Rattle.sql_entries.specs.Rows.{shown, shown_kept};
+ghost use Rattle.sql_entries.specs.Shown.{HasShortNumbers, shown_entry};
 
 use crate::entry::entry_in;
 use crate::looking::reply_in;
@@ -42,7 +52,7 @@ fn rows_at<S: Alter>(conn: &mut Connection<S>, number: u64) -> Result<Vec<Row>, 
 /// The numbers above one.
 fn rows_above<S: Alter>(conn: &mut Connection<S>, number: u64) -> Result<Vec<Row>, Error>
     requires { number < 2 ^ 63 }
-    ensures shown { Soundly S.Store conn.old conn.new (IfOk result (λ rows. rows.items ≡ [] → filter (is_above number) ((tables S.Store conn.old).trees 6) ≡ [])) }
+    ensures shown { Soundly S.Store conn.old conn.new (IfOk result (λ rows. rows.items ≡ [] ↔ filter (is_above number) ((tables S.Store conn.old).trees 6) ≡ [])) }
     ensures look { Looks S.Store conn.old conn.new result }
     ensures blame { Soundly S.Store conn.old conn.new (FailsForCause S.Store conn.old conn.new result) }
 {
@@ -56,7 +66,7 @@ fn rows_above<S: Alter>(conn: &mut Connection<S>, number: u64) -> Result<Vec<Row
 /// The numbers below one.
 fn rows_below<S: Alter>(conn: &mut Connection<S>, number: u64) -> Result<Vec<Row>, Error>
     requires { number < 2 ^ 63 }
-    ensures shown { Soundly S.Store conn.old conn.new (IfOk result (λ rows. rows.items ≡ [] → filter (is_below number) ((tables S.Store conn.old).trees 6) ≡ [])) }
+    ensures shown { Soundly S.Store conn.old conn.new (IfOk result (λ rows. rows.items ≡ [] ↔ filter (is_below number) ((tables S.Store conn.old).trees 6) ≡ [])) }
     ensures look { Looks S.Store conn.old conn.new result }
     ensures blame { Soundly S.Store conn.old conn.new (FailsForCause S.Store conn.old conn.new result) }
 {
@@ -70,7 +80,8 @@ fn rows_below<S: Alter>(conn: &mut Connection<S>, number: u64) -> Result<Vec<Row
 /// What is shown of the row of an entry with its reply.
 fn values(number: u64, kept: &Kept) -> [ValueRef<'_>; 21]
     requires { number < 2 ^ 63 }
-    ensures { bound result ≡ shown_kept number kept.now }
+    ensures said { bound result ≡ shown_kept number kept.now }
+    ensures plain { AllByRecursion (λ value. IsPlain (owned value)) result }
 {
     let [
         number,
@@ -104,7 +115,7 @@ fn values(number: u64, kept: &Kept) -> [ValueRef<'_>; 21]
 /// Whether shown rows are the one of an entry with its reply.
 fn is_row_of(rows: &[Row], number: u64, kept: &Kept) -> bool
     requires { number < 2 ^ 63 }
-    ensures { IsTrue result → rows.now ≡ shown_kept number kept.now ∷ [] }
+    ensures { IsTrue result ↔ (rows.now ≡ shown_kept number kept.now ∷ []) }
 {
     match rows {
         [row] => same_row(row, &values(number, kept)),
@@ -114,6 +125,7 @@ fn is_row_of(rows: &[Row], number: u64, kept: &Kept) -> bool
 
 /// The entry that a shown row says; None where it says none of the desk's.
 fn entry_said(alloc: Global, row: &Row) -> Result<Option<Entry>, Error>
+    ensures exact { (entry : AnyEntry) (rest : Values) → row.now ≡ shown_entry entry ++ rest → IsSpelt entry → IfOk result (λ said. said ≡ Some entry) }
     ensures fails { 15 < length row.now → IfErr result (λ e. e ≡ Error.SqliteFailure OutOfMemory) }
 {
     match entry_in(alloc, row) {
@@ -125,6 +137,7 @@ fn entry_said(alloc: Global, row: &Row) -> Result<Option<Entry>, Error>
 
 /// The reply that it says; None where it says none.
 fn reply_said(alloc: Global, row: &Row) -> Result<Option<Reply>, Error>
+    ensures exact { (reply : Answer) → 18 < length row.now → SaysReply row.now 16 reply → HasShortNumbers reply → IfOk result (λ said. said ≡ Some reply) }
     ensures fails { 18 < length row.now → IfErr result (λ e. e ≡ Error.SqliteFailure OutOfMemory) }
 {
     match reply_in(alloc, row, REPLY) {
@@ -137,6 +150,7 @@ fn reply_said(alloc: Global, row: &Row) -> Result<Option<Reply>, Error>
 /// The entry with its reply that a shown row says. Nothing has to be known of them: the whole row is compared with what they
 /// would write.
 fn kept_said(alloc: Global, row: &Row) -> Result<Option<Kept>, Error>
+    ensures exact { (number : ℕ) (kept : Pair) → row.now ≡ shown_kept number kept → IsWellFormed kept.entry → HasShortNumbers kept.reply → IfOk result (λ said. said ≡ Some kept) }
     ensures fails { 18 < length row.now → IfErr result (λ e. e ≡ Error.SqliteFailure OutOfMemory) }
 {
     let Some(entry) = entry_said(alloc, row)? else {
@@ -162,6 +176,8 @@ pub enum Found {
 fn found_in(alloc: Global, rows: &[Row], number: u64) -> Result<Found, Error>
     requires { number < 2 ^ 63 }
     ensures shown { IfOk result (λ found. IsShownAs rows.now number found) }
+    ensures exact { (kept : Pair) → IsShownRow rows.now number kept → HasShortNumbers kept.reply → IfOk result (λ found. found ≡ Found.Entry kept) }
+    ensures nothing { IfOk result (λ found. (found ≡ Found.Nothing) ↔ (rows.now ≡ [])) }
     ensures formed { IfOk result IsFormed }
     ensures fails { AllByRecursion (λ row. length row ≡ 21) rows.now → IfErr result (λ e. e ≡ Error.SqliteFailure OutOfMemory) }
 {
@@ -178,7 +194,7 @@ fn found_in(alloc: Global, rows: &[Row], number: u64) -> Result<Found, Error>
     Ok(Found::Entry(kept))
 }
 
-/// What stands under a number.
+/// What stands under a number. The row of a well-formed entry with a reply of short numbers is always found to be it.
 pub fn found_at<S: Alter>(
     alloc: Global,
     conn: &mut Connection<S>,
@@ -186,6 +202,8 @@ pub fn found_at<S: Alter>(
 ) -> Result<Found, Error>
     requires { number < 2 ^ 63 }
     ensures found { Soundly S.Store conn.old conn.new (AllByRecursion (HasForm register_table) ((tables S.Store conn.old).trees 6) → IfOk result (λ found. IsFound ((tables S.Store conn.old).trees 6) number found)) }
+    ensures exact { Soundly S.Store conn.old conn.new ((kept : Pair) → IsRowOf ((tables S.Store conn.old).trees 6) number kept → HasShortNumbers kept.reply → IfOk result (λ found. found ≡ Found.Entry kept)) }
+    ensures nothing { Soundly S.Store conn.old conn.new (IfOk result (λ found. (found ≡ Found.Nothing) ↔ (filter (has_number number) ((tables S.Store conn.old).trees 6) ≡ []))) }
     ensures formed { IfOk result IsFormed }
     ensures look { Looks S.Store conn.old conn.new result }
     ensures blame { Soundly S.Store conn.old conn.new (FailsForCause S.Store conn.old conn.new result) }
@@ -197,7 +215,7 @@ pub fn found_at<S: Alter>(
 /// Whether there is no row below 1, nor above the last.
 pub fn has_no_other<S: Alter>(conn: &mut Connection<S>, count: u64) -> Result<bool, Error>
     requires { count < 2 ^ 63 }
-    ensures none { Soundly S.Store conn.old conn.new (IfOk result (λ ok. IsTrue ok → HasNoOther ((tables S.Store conn.old).trees 6) count)) }
+    ensures none { Soundly S.Store conn.old conn.new (IfOk result (λ ok. IsTrue ok ↔ HasNoOther ((tables S.Store conn.old).trees 6) count)) }
     ensures look { Looks S.Store conn.old conn.new result }
     ensures blame { Soundly S.Store conn.old conn.new (FailsForCause S.Store conn.old conn.new result) }
 {

@@ -13,7 +13,7 @@ execute-requires g c = record { edit = insert_edit }
 pub returns-clause-added : goal.returns-clause-added
 returns-clause-added g c clean is_open has register are is =
     added (state g.S.Store c.args.conn.now) (state g.S.Store c.execute.new.conn) register has are c.args.entry.now c.args.reply.now c.args.number c.in_ok-execute.field-0 is c.requires
-    (rw c.row_values-row.ensures at (c.in_ok-execute.ensures.runs clean))
+    (rw c.row_values-row.ensures.said at (c.in_ok-execute.ensures.runs clean))
 
 pub returns-in_err-execute-clause-blame : goal.returns-in_err-execute-clause-blame
 returns-in_err-execute-clause-blame g c clean is_open has register are is formed unused =
@@ -22,4 +22,4 @@ returns-in_err-execute-clause-blame g c clean is_open has register are is formed
     let e = c.in_err-execute.field-0.0 in
     on_error c.from_residual.result e (ForCause old new) c.from_residual.ensures.1
     (add_caused old new has is_open (c.in_err-execute.ensures.obeyed is_open) register are c.args.number is c.args.entry.now c.args.reply.now c.formed.ensures formed unused (Err e)
-    (rw c.row_values-row.ensures at (c.in_err-execute.ensures.runs clean)))
+    (rw c.row_values-row.ensures.said at (c.in_err-execute.ensures.runs clean)))

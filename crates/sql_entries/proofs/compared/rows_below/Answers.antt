@@ -1,7 +1,7 @@
 use Rattle.std.proofs.Common.{[], ◌∷◌, pos}
 use Rattle.sqlite.specs.declared.types.Value.TheVariants.{Int}
 use Rattle.sqlite.specs.Held.{state}
-use Rattle.sql_tables.proofs.ShownLemmas.{none_passes}
+use Rattle.sql_tables.proofs.ShownLemmas.{none_shown}
 use Rattle.sql_entries.proofs.ComparedRows.{below_caused, reads_below}
 use Rattle.sql_entries.proofs.compared.rows_below.Goals as goal
 
@@ -10,7 +10,7 @@ query-requires g c = record { query = reads_below.query }
 
 pub returns-clause-shown : goal.returns-clause-shown
 returns-clause-shown g c clean is_open has =
-    none_passes reads_below (Int (pos c.args.number) ∷ []) (state g.S.Store c.args.conn.now) (state g.S.Store c.query.new.conn) has c.query.result (rw c.integer.ensures at (c.query.ensures.shown clean))
+    none_shown reads_below (Int (pos c.args.number) ∷ []) (state g.S.Store c.args.conn.now) (state g.S.Store c.query.new.conn) has c.query.result (rw c.integer.ensures at (c.query.ensures.shown clean))
 
 pub returns-clause-blame : goal.returns-clause-blame
 returns-clause-blame g c clean is_open has =
