@@ -6,6 +6,7 @@ mod CheckLemmas
 pub mod ContentFacts
 mod FormLemmas
 pub mod FoundLemmas
+mod FrontLemmas
 pub mod GoneLemmas
 mod HandedLemmas
 pub mod HistoryFacts

@@ -18,7 +18,7 @@ use Rattle.desk_file.specs.Parts.{HasParts}
 use Rattle.desk_file.proofs.ContentFacts.{had_is, held_is, nothing_unnamed, paid_together, registered, stands_nowhere, stranger_has_none, stranger_holds_none}
 use Rattle.desk_file.proofs.WritableFacts.{all_formed, sendable, short, stands, within}
 
-every : (f g : ℕ → Standing) → ((n : ℕ) → f n ≡ g n) → f ≡ g
+pub every : (f g : ℕ → Standing) → ((n : ℕ) → f n ≡ g n) → f ≡ g
 every f g same = λ k n. same n k
 
 module _ (db : Database) (limit : ℕ) (books : Books) (content : Content) (parts : HasParts db content) (few : limit ≤ MOST_ENTRIES) (keeps : KeepsBooks limit books content) (formed : AreWellFormed books.history) where

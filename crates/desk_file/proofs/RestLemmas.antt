@@ -1,5 +1,5 @@
 -- What the audits of tables presume, of an accepted history; and what they show together.
-use Rattle.std.proofs.Common.{◌≡◌, ◌⊎◌, inl, inr, ℕ, zero, suc, ◌<◌, ◌≤◌, length, Option, None, Some, Ok, Err, Result, IfOk, refl, sym, ap, subst, arith}
+use Rattle.std.proofs.Common.{◌≡◌, ◌⊎◌, inl, inr, ℕ, zero, suc, ◌<◌, ◌≤◌, length, map, Option, None, Some, Ok, Err, Result, IfOk, refl, sym, ap, subst, ◌∙◌, arith}
 use Rattle.std.proofs.lemmas.List.{length-map}
 use Rattle.std.proofs.lemmas.Option.{slice_get_past}
 use Rattle.sqlite.specs.Effect.{Database}
@@ -10,12 +10,22 @@ use Rattle.desk_rules.specs.declared.limits.TheConstants.{MOST_ENTRIES}
 use Rattle.desk_rules.specs.Content.{Content, history_of}
 use Rattle.desk_rules.specs.History.{instructed, instruction_at}
 use Rattle.desk_rules.specs.WellFormed.{AreWellFormed}
+use Rattle.desk_rules.proofs.OneContent.{one_content}
 use Rattle.desk_engine.specs.KeptHistory.{HoldsKept}
+use Rattle.sql_register.proofs.ContentLemmas.{by_parts}
+use Rattle.sql_register.specs.Content.{content_in}
+use Rattle.sql_register.specs.Holds.{Keeps}
+use Rattle.sql_rows.specs.declared.amounts.key.AmountKey.{AmountKey}
 use Rattle.sql_rows.specs.declared.amounts.key.AmountKey.TheVariants as keys
+use Rattle.sql_rows.specs.Amounts.{amount_at}
 use Rattle.sql_tables.specs.Schema.{desk_schema}
 use Rattle.sql_tables.specs.Version.{HasVersion}
-use Rattle.sql_rows.specs.Said.{HasNoStranger}
+use Rattle.sql_rows.specs.Said.{HasNoStranger, IsSaid}
 use Rattle.sql_tables.specs.declared.fault.AuditFault.{AuditFault}
+use Rattle.desk_file.specs.declared.audit.register.Reading.{Reading}
+use Rattle.desk_file.specs.declared.audit.register.Reading.TheVariants.{Stops}
+use Rattle.desk_file.specs.declared.audit.register.Reading.TheVariants as readings
+use Rattle.desk_file.specs.declared.audit.rest.Table.{Table}
 use Rattle.desk_file.specs.declared.audit.auditing.Audited.{Audited}
 use Rattle.desk_file.specs.declared.audit.auditing.Audited.TheVariants.{Whole}
 use Rattle.desk_file.specs.Reading.{IsRead}
@@ -23,7 +33,7 @@ use Rattle.sql_rows.specs.StandingsTold.{StandsWithin}
 use Rattle.desk_file.specs.Audited.{IsAudited, IsFilled, SaysRest}
 use Rattle.desk_file.specs.Parts.{HasParts}
 use Rattle.desk_file.proofs.ContentFacts.{stands_nowhere, stranger_has_none, stranger_holds_none}
-use Rattle.desk_file.proofs.PartLemmas.{becomes}
+use Rattle.desk_file.proofs.PartLemmas.{becomes, every}
 
 abbrev instructed_of : Option Entry → Option Instructed
 instructed_of None = None
@@ -62,6 +72,7 @@ parts db limit content schema read rest = record {
 pub audited : (db : Database) (limit : ℕ) (content : Content) → limit ≤ MOST_ENTRIES → db.schema ≡ desk_schema → HasVersion db (Some 3) → IsRead db limit content → SaysRest db content → IsAudited db limit content
 audited db limit content few schema version read rest = record {
   becomes = becomes db limit read.held.books content (parts db limit content schema read rest) few read.held.keeps (subst AreWellFormed read.held.keeps.tables.history read.formed);
+  amounts = rest.amounts.each;
   version = version;
   held = read.held;
   formed = read.formed;
@@ -78,3 +89,47 @@ audit_whole d0 d1 limit content (Ok found) few same schema version fills = λ wh
     let it = subst (λ (d : Database). IsFilled d limit content) same (fills whole) in
     audited d0 limit content few schema version it.read it.rest
 audit_whole d0 d1 limit content (Err fault) few same schema version fills = tt
+
+-- ---- the other way
+
+-- a list that is held has one content
+pub same_content : (limit room : ℕ) (a b : Content) → HoldsKept limit a.register a → HoldsKept room b.register b → a.register ≡ b.register → a ≡ b
+same_content limit room a b p q register =
+    let same = one_content p.books q.books a b p.keeps.tables q.keeps.tables (ap (map (λ (kept : Kept). kept.entry)) register) in
+    by_parts a.register b.register a.standing b.standing a.position b.position a.cash b.cash a.sent b.sent register (every a.standing b.standing same.same_standing) same.same_position same.same_cash same.same_sent
+
+-- what is audited is read and compared with success
+pub is_filled : (db : Database) (limit : ℕ) (content : Content) → IsAudited db limit content → IsFilled db limit content
+is_filled db limit content audited =
+    let is : content_in db ≡ content = audited.becomes.content_is in
+    let keeps : Keeps db content = subst (Keeps db) is audited.becomes.desk in
+    record {
+      read = record { entries = keeps.entries; held = audited.held; formed = audited.formed };
+      rest = record {
+        standings = record { kept = keeps.standings; each = λ n. ap (λ (c : Content). c.standing n) is };
+        sent = keeps.sent;
+        amounts = record { amounts = keeps.amounts; each = audited.amounts; said = said is keeps };
+      };
+    }
+  where
+    said : content_in db ≡ content → Keeps db content → (key : AmountKey) → IsSaid content key (amount_at db key)
+    said is keeps (keys.Balance account isin) = ap (λ (c : Content). c.position account isin) is
+    said is keeps (keys.Cash bic ccy) = ap (λ (c : Content). c.cash bic ccy) is
+    said is keeps (keys.Security isin) = keeps.totals.outstanding isin
+    said is keeps (keys.Currency ccy) = keeps.totals.paid ccy
+
+pub filled_again : (d0 d1 : Database) (limit : ℕ) (content : Content) → d1 ≡ d0 → IsAudited d0 limit content → IsFilled d1 limit content
+filled_again d0 d1 limit content same audited = subst (λ (d : Database). IsFilled d limit content) (sym same) (is_filled d0 limit content audited)
+
+-- the tables say the rest of what a register holds that took in the same list
+pub rest_again : (d0 d1 : Database) (limit room : ℕ) (held content : Content) → d1 ≡ d0 → HoldsKept room held.register held → held.register ≡ content.register → IsFilled d0 limit content → SaysRest d1 held
+rest_again d0 d1 limit room held content same holds register filled =
+    let is : held ≡ content = same_content room limit held content holds filled.read.held register in
+    subst (SaysRest d1) (sym is) (subst (λ (d : Database). SaysRest d content) (sym same) filled.rest)
+
+-- what is told is one thing
+pub whole_or_stops : (reading : Reading) (n : ℕ) → reading ≡ readings.Whole → reading ≡ Stops n → ⊥
+whole_or_stops reading n whole stops = (let same : readings.Whole ≡ Stops n = sym whole ∙ stops in cc)
+
+pub none_or_some : (other : Option Table) (table : Table) → other ≡ None → other ≡ Some table → ⊥
+none_or_some other table none some = (let same : None ≡ Some table = sym none ∙ some in cc)

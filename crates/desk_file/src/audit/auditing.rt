@@ -58,6 +58,8 @@ fn fill<S: Alter, R: Messages, P: Progress>(
         (AreInOrder desk_schema (tables S.Store conn.old).trees → AreAllFormed (tables S.Store conn.old).trees
         → IfOk result (λ audited. audited ≡ Audited.Whole → IsFilled (tables S.Store conn.old) (R.Register.view register.old).room (R.Register.view register.new).content))) }
     ensures holds { IfTrusted (R.Register.view register.old) (R.Register.view register.new) (IfOk result (λ audited. audited ≡ Audited.Whole → HoldsFormed (R.Register.view register.old).room (R.Register.view register.new).content)) }
+    ensures exact { Soundly S.Store conn.old conn.new (IfTrusted (R.Register.view register.old) (R.Register.view register.new)
+        ((content : Content) → IsFilled (tables S.Store conn.old) (R.Register.view register.old).room content → IfOk result (λ audited. audited ≡ Audited.Whole))) }
     ensures not_other { IfOk result (λ audited. audited ≢ Audited.OtherTables) }
     ensures look { Audits S.Store conn.old conn.new result }
     ensures cause { Soundly S.Store conn.old conn.new (IfTrusted (R.Register.view register.old) (R.Register.view register.new)
@@ -76,9 +78,10 @@ fn fill<S: Alter, R: Messages, P: Progress>(
     }
 }
 
-/// Audits a database whose rows stand in order, and fills a register that holds nothing from it. Where it is whole, it is that
-/// of an accepted history, and the register holds its content; that it holds some accepted history rests on no answer of the
-/// tables. Else, and after a fault, the register should be given up. `progress` is told how many entries are taken in.
+/// Audits a database, and fills a register that holds nothing from it. One that is that of an accepted history is found whole.
+/// What is found whole, with its rows in order, is that of one, and the register holds its content; that it holds some accepted
+/// history rests on no answer of the tables. Else, and after a fault, the register should be given up. `progress` is told how
+/// many entries are taken in.
 pub fn audit<S: Alter, R: Messages, P: Progress>(
     alloc: Global,
     conn: &mut Connection<S>,
@@ -90,9 +93,10 @@ pub fn audit<S: Alter, R: Messages, P: Progress>(
     ensures whole { HasCleanDisk (state S.Store conn.new) → IsTrue (state S.Store conn.old).is_open → IfTrusted (R.Register.view register.old) (R.Register.view register.new)
         (AreInOrder (tables S.Store conn.old).schema (tables S.Store conn.old).trees → (R.Register.view register.old).room ≤ MOST_ENTRIES
         → IfOk result (λ audited. audited ≡ Audited.Whole → IsAudited (tables S.Store conn.old) (R.Register.view register.old).room (R.Register.view register.new).content)) }
-    ensures exact { HasCleanDisk (state S.Store conn.new) → IsTrue (state S.Store conn.old).is_open → IfTrusted (R.Register.view register.old) (R.Register.view register.new) ((content : Content) → IsAudited (tables S.Store conn.old) (R.Register.view register.old).room content → IfOk result (λ audited. audited ≡ Audited.Whole)) }
     ensures holds { IfTrusted (R.Register.view register.old) (R.Register.view register.new) (IfOk result (λ audited. audited ≡ Audited.Whole → HoldsFormed (R.Register.view register.old).room (R.Register.view register.new).content)) }
     ensures same { HasCleanDisk (state S.Store conn.new) → IsTrue (state S.Store conn.old).is_open → OnOk result (IsSame (state S.Store conn.old) (state S.Store conn.new)) }
+    ensures exact { HasCleanDisk (state S.Store conn.new) → IsTrue (state S.Store conn.old).is_open → IfTrusted (R.Register.view register.old) (R.Register.view register.new)
+        ((content : Content) → IsAudited (tables S.Store conn.old) (R.Register.view register.old).room content → IfOk result (λ audited. audited ≡ Audited.Whole)) }
     ensures kept { HasCleanDisk (state S.Store conn.new) → IsTrue (state S.Store conn.old).is_open → KeepsCommitted (state S.Store conn.old) (state S.Store conn.new) }
     ensures other_tables { IfOk result (λ audited. audited ≡ Audited.OtherTables → (tables S.Store conn.old).schema ≢ desk_schema) }
     ensures look { Audits S.Store conn.old conn.new result }

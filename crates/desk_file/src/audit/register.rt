@@ -1,15 +1,19 @@
 //! The register, read entry by entry.
-ghost use Rattle.std.specs.Prelude.{◌≡◌, ◌<◌, ◌^◌, [], true, IfOk, OnOk};
+ghost use Rattle.std.specs.Prelude.{◌≡◌, ◌↔◌, ◌<◌, ◌^◌, ◌∷◌, ◌++◌, [], filter, true, IfOk, OnOk};
 ghost use Rattle.std.specs.List.{AllByRecursion};
 ghost use Rattle.desk_engine.specs.Accepting.{IsDone};
 ghost use Rattle.desk_register.specs.View.{IfTrusted, IsLater};
-ghost use Rattle.desk_engine.specs.KeptHistory.{HoldsKept};
+ghost use Rattle.desk_engine.specs.KeptHistory.{CanBeKept, HoldsKept};
+ghost use Rattle.desk_rules.specs.declared.answers.reply.Kept.{Kept};
+ghost use Rattle.desk_rules.specs.Content.{Content};
 ghost use Rattle.sql_tables.specs.Calls.{FailsForCause, Looks, Soundly, tables};
 ghost use Rattle.sql_tables.specs.Schema.{desk_schema, register_table};
 ghost use Rattle.sql_tables.specs.Forms.{AreAllFormed, HasForm};
 ghost use Rattle.sql_tables.specs.Order.{AreInOrder};
 ghost use Rattle.sql_tables.specs.Audits.{of_register, Audits, AuditsForCause};
-ghost use Rattle.sql_tables.specs.ByNumber.{HasNoOther};
+ghost use Rattle.sql_tables.specs.ByNumber.{has_number, HasNoOther};
+ghost use Rattle.sql_entries.specs.Found.{IsRowOf};
+ghost use Rattle.sql_entries.specs.Shown.{HasShortNumbers};
 ghost use Rattle.desk_file.specs.Reading.{HoldsFormed, IsRead, TakesRow};
 ghost use Rattle.desk_file.specs.Taking.{BlamesTaking};
 
@@ -57,6 +61,10 @@ fn read_entry<S: Alter, R: Register>(
         → HoldsKept (R.view register.old).room (R.view register.old).content.register (R.view register.old).content
         → IfOk result (λ step. step ≡ Step.Taken → TakesRow ((tables S.Store conn.old).trees 6) number (R.view register.old).room (R.view register.old).content (R.view register.new).content))) }
     ensures holds { IfTrusted (R.view register.old) (R.view register.new) (IfOk result (λ step. step ≡ Step.Taken → HoldsFormed (R.view register.old).room (R.view register.new).content)) }
+    ensures exact { Soundly S.Store conn.old conn.new (IfTrusted (R.view register.old) (R.view register.new) ((kept : Kept) → IsRowOf ((tables S.Store conn.old).trees 6) number kept → HasShortNumbers kept.reply
+        → CanBeKept (R.view register.old).room ((R.view register.old).content.register ++ kept ∷ [])
+        → IfOk result (λ step. (step ≡ Step.Taken) × HoldsKept (R.view register.old).room ((R.view register.old).content.register ++ kept ∷ []) (R.view register.new).content))) }
+    ensures nothing { Soundly S.Store conn.old conn.new (IfOk result (λ step. (step ≡ Step.Nothing) ↔ (filter (has_number number) ((tables S.Store conn.old).trees 6) ≡ []))) }
     ensures same { IfTrusted (R.view register.old) (R.view register.new) (IfOk result (λ step. step ≡ Step.Nothing → (R.view register.new).content ≡ (R.view register.old).content)) }
     ensures look { Audits S.Store conn.old conn.new result }
     ensures done { OnOk result (IsDone (R.view register.old) (R.view register.new)) }
@@ -80,7 +88,7 @@ fn read_entry<S: Alter, R: Register>(
 /// What the table comes to behind so many entries: whether there is no other row.
 fn read_end<S: Alter>(conn: &mut Connection<S>, count: u64) -> Result<Reading, Error>
     requires { count < 2 ^ 63 }
-    ensures none { Soundly S.Store conn.old conn.new (IfOk result (λ reading. reading ≡ Reading.Whole → HasNoOther ((tables S.Store conn.old).trees 6) count)) }
+    ensures none { Soundly S.Store conn.old conn.new (IfOk result (λ reading. (reading ≡ Reading.Whole) ↔ HasNoOther ((tables S.Store conn.old).trees 6) count)) }
     ensures look { Looks S.Store conn.old conn.new result }
     ensures cause { Soundly S.Store conn.old conn.new (FailsForCause S.Store conn.old conn.new result) }
 {
@@ -91,9 +99,10 @@ fn read_end<S: Alter>(conn: &mut Connection<S>, count: u64) -> Result<Reading, E
     }
 }
 
-/// Reads the table `register` from its first entry to its last and takes each into a register that holds nothing. Where it is
-/// whole, it is exactly the list that the register holds then. Else, and after a fault, the register should be given up: it
-/// holds the entries so far, and the last one that was read with the reply that it gets.
+/// Reads the table `register` from its first entry to its last and takes each into a register that holds nothing. It is whole
+/// where it is an accepted history of well-formed entries, and exactly the list that the register holds then. Else, and after a
+/// fault, the register should be given up: it holds the entries so far, and the last one that was read with the reply that it
+/// gets.
 pub fn read_register<S: Alter, R: Register, P: Progress>(
     alloc: Global,
     conn: &mut Connection<S>,
@@ -105,6 +114,8 @@ pub fn read_register<S: Alter, R: Register, P: Progress>(
     ensures entries { Soundly S.Store conn.old conn.new (IfTrusted (R.view register.old) (R.view register.new) (AreInOrder desk_schema (tables S.Store conn.old).trees → AreAllFormed (tables S.Store conn.old).trees
         → IfOk result (λ reading. reading ≡ Reading.Whole → IsRead (tables S.Store conn.old) (R.view register.old).room (R.view register.new).content))) }
     ensures holds { IfTrusted (R.view register.old) (R.view register.new) (IfOk result (λ reading. reading ≡ Reading.Whole → HoldsFormed (R.view register.old).room (R.view register.new).content)) }
+    ensures exact { Soundly S.Store conn.old conn.new (IfTrusted (R.view register.old) (R.view register.new) ((content : Content) → IsRead (tables S.Store conn.old) (R.view register.old).room content
+        → IfOk result (λ reading. (reading ≡ Reading.Whole) × ((R.view register.new).content.register ≡ content.register)))) }
     ensures look { Audits S.Store conn.old conn.new result }
     ensures done { OnOk result (IsDone (R.view register.old) (R.view register.new)) }
     ensures later { IsLater (R.view register.old) (R.view register.new) }

@@ -1,4 +1,5 @@
 use Rattle.std.proofs.Common.{Bool, Ok, Err, ◌≡◌, ◌∙◌, ap, refl, subst, sym, arith}
+use Rattle.std.proofs.lemmas.Bool.{both_ways}
 use Rattle.sqlite.specs.Effect.{Database}
 use Rattle.sqlite.specs.Held.{state}
 use Rattle.sqlite.specs.Schema.{Schema}
@@ -12,7 +13,7 @@ use Rattle.sql_tables.specs.Audits.{of_tables}
 use Rattle.sql_tables.proofs.LookLemmas.{look_none, look_ok, look_then}
 use Rattle.desk_file.proofs.HandedLemmas.{blame_none, blame_told, cause_told, done_none, later_none, look_told, no_answer, not_done}
 use Rattle.desk_file.proofs.KeptLemmas.{kept_by}
-use Rattle.desk_file.proofs.RestLemmas.{audit_whole}
+use Rattle.desk_file.proofs.RestLemmas.{audit_whole, filled_again}
 use Rattle.desk_file.proofs.audit.auditing.audit.Goals as goal
 
 pub returns-clause-whole : goal.returns-clause-whole
@@ -34,6 +35,28 @@ returns-clause-whole g c = λ clean is_open honest sure order few.
     let order1 = subst (λ (d : Database). AreInOrder desk_schema d.trees) (sym same.now) order0 in
     let formed1 = subst (λ (d : Database). AreAllFormed d.trees) (sym same.now) formed0 in
     audit_whole s0.now s1.now v0.room v2.content c.fill.result few same.now schema version (e2.filled clean same.is_open schema1 honest sure order1 formed1)
+
+pub returns-then-not-has_desk_tables-clause-exact : goal.returns-then-not-has_desk_tables-clause-exact
+returns-then-not-has_desk_tables-clause-exact g c clean is_open honest sure content audited = absurd (let desk = c.if-not-has_desk_tables.ensures.exact.1 audited.becomes.desk.schema in cc)
+
+pub returns-in_err-has_version-clause-exact : goal.returns-in_err-has_version-clause-exact
+returns-in_err-has_version-clause-exact g c clean is_open honest sure content audited = no_answer c.from_residual.result _ _ c.from_residual.ensures.1
+
+pub returns-then-not-branch-clause-exact : goal.returns-then-not-branch-clause-exact
+returns-then-not-branch-clause-exact g c clean is_open honest sure content audited =
+    absurd (both_ways _ c.if-not-branch.true (c.in_ok-has_version.ensures.all clean is_open audited.becomes.desk.schema audited.version))
+
+pub returns-clause-exact : goal.returns-clause-exact
+returns-clause-exact g c = λ clean is_open honest sure content audited.
+    let s0 = state g.S.Store c.args.conn.now in
+    let s1 = state g.S.Store c.has_version.new.conn in
+    let v0 = g.R.Register.view c.args.register.now in
+    let schema = audited.becomes.desk.schema in
+    let e1 = c.in_ok-has_version.ensures in
+    let e2 = c.fill.ensures in
+    let clean1 : HasCleanDisk s1 = (let less = e2.look.later.clean in omega (arith, less, clean)) in
+    let same : IsSame s0 s1 = e1.look.ok clean1 is_open schema in
+    e2.exact clean same.is_open (ap (λ (d : Database). d.schema) same.now ∙ schema) honest sure content (filled_again s0.now s1.now v0.room content same.now audited)
 
 pub returns-clause-cause : goal.returns-clause-cause
 returns-clause-cause g c = λ clean is_open honest sure order.

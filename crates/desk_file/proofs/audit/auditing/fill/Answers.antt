@@ -11,10 +11,11 @@ use Rattle.sql_tables.proofs.LookLemmas.{look_more}
 use Rattle.sql_rows.proofs.AmountWalkLemmas.{cause_failed}
 use Rattle.desk_file.specs.declared.audit.register.Reading.{Reading}
 use Rattle.desk_file.specs.declared.audit.rest.Table.{Table}
+use Rattle.desk_engine.specs.KeptHistory.{HoldsKept}
 use Rattle.desk_file.specs.Reading.{HoldsFormed}
 use Rattle.desk_file.proofs.GoneLemmas.{again, IsAccepted}
 use Rattle.desk_file.proofs.HandedLemmas.{blame_fell, blame_handed, blame_none, blame_read, cause_handed, done_read, later_more, look_fell, look_handed, no_answer, not_done}
-use Rattle.desk_file.proofs.RestLemmas.{filled}
+use Rattle.desk_file.proofs.RestLemmas.{filled, none_or_some, rest_again, whole_or_stops}
 use Rattle.desk_file.proofs.audit.auditing.fill.Goals as goal
 
 pub returns-in-None-clause-filled : goal.returns-in-None-clause-filled
@@ -36,6 +37,33 @@ returns-in-None-clause-filled g c = λ clean is_open has honest sure order forme
     let q = again s0.now s1.now v0.room v1.room v1.content v1.content same.now e1.later.room refl it in
     let rest = e2.says clean same.is_open has1 honest sure1 q.order q.formed q.held c.in-None.is in
     filled s0.now s1.now v0.room v1.content v2.content same.now (e2.read.same honest sure1) read rest
+
+pub returns-in_err-read_register-clause-exact : goal.returns-in_err-read_register-clause-exact
+returns-in_err-read_register-clause-exact g c clean is_open has honest sure content filled = no_answer c.from_residual.result _ _ c.from_residual.ensures.1
+
+pub returns-in-Stops-clause-exact : goal.returns-in-Stops-clause-exact
+returns-in-Stops-clause-exact g c clean is_open has honest sure content filled = absurd (whole_or_stops _ _ (c.in_ok-read_register.ensures.exact clean is_open has honest sure content filled.read).0 c.in-Stops.is)
+
+pub returns-in_err-table-clause-exact : goal.returns-in_err-table-clause-exact
+returns-in_err-table-clause-exact g c clean is_open has honest sure content filled = no_answer c.from_residual-in_err-table.result _ _ c.from_residual-in_err-table.ensures.1
+
+pub returns-in-Some-clause-exact : goal.returns-in-Some-clause-exact
+returns-in-Some-clause-exact g c = λ clean is_open has honest sure content filled.
+    let s0 = state g.S.Store c.args.conn.now in
+    let s1 = state g.S.Store c.read_register.new.conn in
+    let v0 = g.R.Register.view c.args.register.now in
+    let v1 = g.R.Register.view c.read_register.new.register in
+    let e1 = c.in_ok-read_register.ensures in
+    let e2 = c.in_ok-table.ensures in
+    let clean1 : HasCleanDisk s1 = (let less = e2.look.later.clean in omega (arith, less, clean)) in
+    let same : IsSame s0 s1 = e1.look.ok clean1 is_open has in
+    let has1 = ap (λ (d : Database). d.schema) same.now ∙ has in
+    let honest1 = e2.read.later.honest honest in
+    let read = e1.exact clean1 is_open has honest1 sure content filled.read in
+    let holds = e1.holds honest1 sure read.0 in
+    let held = subst (λ r. HoldsKept r v1.content.register v1.content) (sym e1.later.room) holds.held in
+    let rest = rest_again s0.now s1.now v0.room v1.room v1.content content same.now held read.1 filled in
+    absurd (none_or_some _ _ (e2.exact clean same.is_open has1 honest (e1.done.sure honest1 sure) held holds.formed rest) c.in-Some.is)
 
 pub returns-in-None-clause-holds : goal.returns-in-None-clause-holds
 returns-in-None-clause-holds g c = λ honest sure whole.

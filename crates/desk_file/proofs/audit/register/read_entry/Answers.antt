@@ -1,9 +1,13 @@
-use Rattle.std.proofs.Common.{subst}
+use Rattle.std.proofs.Common.{◌≡◌, ◌∷◌, ◌++◌, [], refl, subst, sym}
+use Rattle.std.proofs.lemmas.Bool.{both_ways}
 use Rattle.sqlite.specs.Held.{state}
 use Rattle.sql_entries.specs.Found.{IsFormed, IsFound}
 use Rattle.sql_entries.specs.declared.compared.Found.{Found}
+use Rattle.desk_rules.specs.declared.answers.reply.Kept.{Kept}
+use Rattle.desk_engine.specs.KeptHistory.{CanBeKept, HoldsKept}
 use Rattle.sql_tables.proofs.LookLemmas.{look_ok}
 use Rattle.desk_file.proofs.HandedLemmas.{blame_none, blame_taken, blame_told, cause_told, done_none, later_none, look_before, look_told, no_answer, no_cause, not_done}
+use Rattle.desk_file.proofs.FrontLemmas.{another_or_nothing, entry_or_another, entry_or_nothing, one_entry}
 use Rattle.desk_file.proofs.ReadingLemmas.{more_formed}
 use Rattle.desk_file.proofs.audit.register.read_entry.Goals as goal
 
@@ -17,6 +21,54 @@ returns-then-branch-clause-holds g c = λ honest sure taken.
 
 pub returns-in_err-found_at-clause-takes : goal.returns-in_err-found_at-clause-takes
 returns-in_err-found_at-clause-takes g c clean is_open has honest sure formed held = no_answer c.from_residual.result _ _ c.from_residual.ensures.1
+
+pub returns-in_err-found_at-clause-exact : goal.returns-in_err-found_at-clause-exact
+returns-in_err-found_at-clause-exact g c clean is_open has honest sure kept is short can = no_answer c.from_residual.result _ _ c.from_residual.ensures.1
+
+pub returns-in_err-found_at-clause-nothing : goal.returns-in_err-found_at-clause-nothing
+returns-in_err-found_at-clause-nothing g c clean is_open has = no_answer c.from_residual.result _ _ c.from_residual.ensures.1
+
+pub returns-in-Nothing-clause-exact : goal.returns-in-Nothing-clause-exact
+returns-in-Nothing-clause-exact g c clean is_open has honest sure kept is short can = absurd (entry_or_nothing c.in_ok-found_at.field-0 kept (c.in_ok-found_at.ensures.exact clean is_open has kept is short) c.in-Nothing.is)
+
+pub returns-in-Nothing-clause-nothing : goal.returns-in-Nothing-clause-nothing
+returns-in-Nothing-clause-nothing g c clean is_open has = (λ same. (c.in_ok-found_at.ensures.nothing clean is_open has).0 c.in-Nothing.is, λ none. refl)
+
+pub returns-in-Another-clause-exact : goal.returns-in-Another-clause-exact
+returns-in-Another-clause-exact g c clean is_open has honest sure kept is short can = absurd (entry_or_another c.in_ok-found_at.field-0 kept (c.in_ok-found_at.ensures.exact clean is_open has kept is short) c.in-Another.is)
+
+pub returns-in-Another-clause-nothing : goal.returns-in-Another-clause-nothing
+returns-in-Another-clause-nothing g c clean is_open has = (λ same. absurd (cc), λ none. absurd (another_or_nothing c.in_ok-found_at.field-0 c.in-Another.is ((c.in_ok-found_at.ensures.nothing clean is_open has).1 none)))
+
+pub returns-in_err-take-in-Entry-clause-exact : goal.returns-in_err-take-in-Entry-clause-exact
+returns-in_err-take-in-Entry-clause-exact g c clean is_open has honest sure kept is short can = no_answer c.from_residual-in_err-take-in-Entry.result _ _ c.from_residual-in_err-take-in-Entry.ensures.1
+
+pub returns-in_err-take-in-Entry-clause-nothing : goal.returns-in_err-take-in-Entry-clause-nothing
+returns-in_err-take-in-Entry-clause-nothing g c clean is_open has = no_answer c.from_residual-in_err-take-in-Entry.result _ _ c.from_residual-in_err-take-in-Entry.ensures.1
+
+pub returns-then-branch-clause-exact : goal.returns-then-branch-clause-exact
+returns-then-branch-clause-exact g c = λ clean is_open has honest sure kept is short can.
+    let v0 = g.R.Register.view c.args.register.now in
+    let v1 = g.R.Register.view c.take.new.register in
+    let e = c.in_ok-take-in-Entry.ensures in
+    let held = (c.requires.holds (e.later.honest honest) sure).held in
+    let same : c.in-Entry.kept ≡ kept = one_entry c.in_ok-found_at.field-0 c.in-Entry.kept kept c.in-Entry.is (c.in_ok-found_at.ensures.exact clean is_open has kept is short) in
+    (refl, subst (λ (k : Kept). HoldsKept v0.room (v0.content.register ++ k ∷ []) v1.content) same ((e.next v0.content.register honest sure held).held c.if-branch.true))
+
+pub returns-then-branch-clause-nothing : goal.returns-then-branch-clause-nothing
+returns-then-branch-clause-nothing g c clean is_open has = (λ same. absurd (cc), λ none. absurd (entry_or_nothing c.in_ok-found_at.field-0 c.in-Entry.kept c.in-Entry.is ((c.in_ok-found_at.ensures.nothing clean is_open has).1 none)))
+
+pub returns-clause-exact : goal.returns-clause-exact
+returns-clause-exact g c = λ clean is_open has honest sure kept is short can.
+    let v0 = g.R.Register.view c.args.register.now in
+    let e = c.in_ok-take-in-Entry.ensures in
+    let held = (c.requires.holds (e.later.honest honest) sure).held in
+    let same : c.in-Entry.kept ≡ kept = one_entry c.in_ok-found_at.field-0 c.in-Entry.kept kept c.in-Entry.is (c.in_ok-found_at.ensures.exact clean is_open has kept is short) in
+    let taken = (e.next v0.content.register honest sure held).exact.1 (subst (λ (k : Kept). CanBeKept v0.room (v0.content.register ++ k ∷ [])) (sym same) can) in
+    absurd (both_ways _ c.if-branch.false taken)
+
+pub returns-clause-nothing : goal.returns-clause-nothing
+returns-clause-nothing g c clean is_open has = (λ same. absurd (cc), λ none. absurd (entry_or_nothing c.in_ok-found_at.field-0 c.in-Entry.kept c.in-Entry.is ((c.in_ok-found_at.ensures.nothing clean is_open has).1 none)))
 
 pub returns-in_err-found_at-clause-holds : goal.returns-in_err-found_at-clause-holds
 returns-in_err-found_at-clause-holds g c honest sure = no_answer c.from_residual.result _ _ c.from_residual.ensures.1

@@ -1,4 +1,4 @@
-use Rattle.std.proofs.Common.{◌≡◌, ◌+◌, ◌∙◌, ap, subst, sym, arith}
+use Rattle.std.proofs.Common.{◌≡◌, ◌↔◌, length, ◌≤◌, ◌+◌, ◌∙◌, ap, subst, sym, arith}
 use Rattle.std.specs.List.{AllByRecursion}
 use Rattle.sqlite.specs.Effect.{Database}
 use Rattle.sqlite.specs.Held.{state}
@@ -15,6 +15,8 @@ use Rattle.desk_file.specs.declared.audit.register.Reading.{Reading}
 use Rattle.desk_file.specs.declared.audit.register.Reading.TheVariants.{Whole}
 use Rattle.desk_file.specs.Reading.{HoldsFormed, HoldsRows, TakesRow}
 use Rattle.desk_file.proofs.ReadingLemmas.{again, formed_again, is_read, more_held, none_formed, none_held}
+use Rattle.desk_rules.specs.Content.{Content}
+use Rattle.desk_file.proofs.FrontLemmas.{holds_first, holds_last, no_other, not_another, nothing_more, stepped, taken_on}
 use Rattle.desk_file.proofs.HandedLemmas.{blame_fell, blame_none, blame_told, cause_told_then, done_none, later_more, later_none, look_fell, look_told_then, no_answer, not_done}
 use Rattle.desk_file.proofs.TakingLemmas.{done_then}
 use Rattle.desk_file.proofs.audit.register.read_register.Goals as goal
@@ -50,6 +52,14 @@ loop-before-preserved g c =
           let takes = e.takes clean same.is_open has1 honest (i.done.sure honest1 sure) formed1 (again v0.room v1.room v1.content (sym i.later.room) so_far.held) c.in-Taken.is in
           more_held (s0.now.trees 6) c.loop-before.before v0.room v1.room v1.content v2.content so_far
           (subst (λ (d : Database). TakesRow (d.trees 6) (c.loop-before.before + 1) v1.room v1.content v2.content) same.now takes) i.later.room;
+      fronts = λ clean is_open has honest sure content read.
+          let clean1 : HasCleanDisk s1 = (let less = e.look.later.clean in omega arith) in
+          let same : IsSame s0 s1 = i.look.ok clean1 is_open has in
+          let has1 : s1.now.schema ≡ desk_schema = ap (λ (d : Database). d.schema) same.now ∙ has in
+          let honest1 = e.later.honest honest in
+          taken_on s0.now content c.loop-before.before v1.content.register c.in_ok-read_entry.field-0 v2.content.register
+          (stepped s0.now s1.now v0.room v1.room content c.loop-before.before v1.content v2.content c.in_ok-read_entry.field-0 same.now i.later.room read (i.fronts clean1 is_open has honest1 sure content read)
+          (e.exact clean same.is_open has1 honest (i.done.sure honest1 sure)) (e.nothing clean same.is_open has1)) c.in-Taken.is;
     }
 
 pub returns-in-Nothing-clause-entries : goal.returns-in-Nothing-clause-entries
@@ -73,7 +83,7 @@ returns-in-Nothing-clause-entries g c = λ clean is_open has honest sure order f
     let has2 : s2.now.schema ≡ desk_schema = ap (λ (d : Database). d.schema) two.now ∙ has1 in
     let honest1 = e.later.honest honest in
     let same : v2.content ≡ v1.content = e.same honest (i.done.sure honest1 sure) c.in-Nothing.is in
-    let none = subst (λ (d : Database). end ≡ Whole → HasNoOther (d.trees 6) count) (two.now ∙ one.now) (n.none clean two.is_open has2) in
+    let none = subst (λ (d : Database). end ≡ Whole → HasNoOther (d.trees 6) count) (two.now ∙ one.now) (n.none clean two.is_open has2).0 in
     let rows = subst (HoldsRows (s0.now.trees 6) count v0.room) (sym same) (i.rows clean1 is_open has honest1 sure formed.1.1.1.0.each) in
     is_read s0.now count v0.room v2.content end none order formed rows (omega arith) whole
 
@@ -91,8 +101,83 @@ returns-clause-entries g c = λ clean is_open has honest sure order formed whole
     let one : IsSame s0 s1 = i.look.ok clean1 is_open has in
     let has1 : s1.now.schema ≡ desk_schema = ap (λ (d : Database). d.schema) one.now ∙ has in
     let all : MOST ≡ count = omega arith in
-    let none = subst (λ (d : Database). end ≡ Whole → HasNoOther (d.trees 6) count) one.now (subst (λ m. end ≡ Whole → HasNoOther (s1.now.trees 6) m) all (n.none clean one.is_open has1)) in
+    let none = subst (λ (d : Database). end ≡ Whole → HasNoOther (d.trees 6) count) one.now (subst (λ m. end ≡ Whole → HasNoOther (s1.now.trees 6) m) all (n.none clean one.is_open has1).0) in
     is_read s0.now count v0.room v1.content end none order formed (i.rows clean1 is_open has honest sure formed.1.1.1.0.each) (omega arith) whole
+
+pub returns-in_err-read_entry-clause-exact : goal.returns-in_err-read_entry-clause-exact
+returns-in_err-read_entry-clause-exact g c clean is_open has honest sure content read = no_answer c.from_residual.result _ _ c.from_residual.ensures.1
+
+pub returns-in-Another-clause-exact : goal.returns-in-Another-clause-exact
+returns-in-Another-clause-exact g c = λ clean is_open has honest sure content read.
+    let s0 = state g.S.Store c.args.conn.now in
+    let s1 = state g.S.Store c.loop-before.conn in
+    let v0 = g.R.Register.view c.args.register.now in
+    let v1 = g.R.Register.view c.loop-before.register in
+    let v2 = g.R.Register.view c.read_entry.new.register in
+    let count = c.loop-before.before in
+    let i = c.loop-before.invariant in
+    let e = c.in_ok-read_entry.ensures in
+    let clean1 : HasCleanDisk s1 = (let less = e.look.later.clean in omega (arith, less, clean)) in
+    let same : IsSame s0 s1 = i.look.ok clean1 is_open has in
+    let has1 : s1.now.schema ≡ desk_schema = ap (λ (d : Database). d.schema) same.now ∙ has in
+    let honest1 = e.later.honest honest in
+    absurd (not_another s0.now content count v1.content.register c.in_ok-read_entry.field-0 v2.content.register
+    (stepped s0.now s1.now v0.room v1.room content count v1.content v2.content c.in_ok-read_entry.field-0 same.now i.later.room read (i.fronts clean1 is_open has honest1 sure content read)
+    (e.exact clean same.is_open has1 honest (i.done.sure honest1 sure)) (e.nothing clean same.is_open has1)) c.in-Another.is)
+
+pub returns-in_err-end-in-Nothing-clause-exact : goal.returns-in_err-end-in-Nothing-clause-exact
+returns-in_err-end-in-Nothing-clause-exact g c clean is_open has honest sure content read = no_answer c.from_residual-in_err-end-in-Nothing.result _ _ c.from_residual-in_err-end-in-Nothing.ensures.1
+
+pub returns-in-Nothing-clause-exact : goal.returns-in-Nothing-clause-exact
+returns-in-Nothing-clause-exact g c = λ clean is_open has honest sure content read.
+    let s0 = state g.S.Store c.args.conn.now in
+    let s1 = state g.S.Store c.loop-before.conn in
+    let s2 = state g.S.Store c.read_entry.new.conn in
+    let v0 = g.R.Register.view c.args.register.now in
+    let v1 = g.R.Register.view c.loop-before.register in
+    let v2 = g.R.Register.view c.read_entry.new.register in
+    let count = c.loop-before.before in
+    let i = c.loop-before.invariant in
+    let e = c.in_ok-read_entry.ensures in
+    let n = c.in_ok-end-in-Nothing.ensures in
+    let end = c.in_ok-end-in-Nothing.end in
+    let clean2 : HasCleanDisk s2 = (let less = n.look.later.clean in omega (arith, less, clean)) in
+    let clean1 : HasCleanDisk s1 = (let less = e.look.later.clean in omega (arith, less, clean2)) in
+    let one : IsSame s0 s1 = i.look.ok clean1 is_open has in
+    let has1 : s1.now.schema ≡ desk_schema = ap (λ (d : Database). d.schema) one.now ∙ has in
+    let two : IsSame s1 s2 = e.look.ok clean2 one.is_open has1 in
+    let has2 : s2.now.schema ≡ desk_schema = ap (λ (d : Database). d.schema) two.now ∙ has1 in
+    let honest1 = e.later.honest honest in
+    let sure1 = i.done.sure honest1 sure in
+    let same : v2.content ≡ v1.content = e.same honest sure1 c.in-Nothing.is in
+    let told = subst (λ (d : Database). (end ≡ Whole) ↔ HasNoOther (d.trees 6) count) (two.now ∙ one.now) (n.none clean two.is_open has2) in
+    let more = nothing_more s0.now content count v1.content.register c.in_ok-read_entry.field-0 v2.content.register
+    (stepped s0.now s1.now v0.room v1.room content count v1.content v2.content c.in_ok-read_entry.field-0 one.now i.later.room read (i.fronts clean1 is_open has honest1 sure content read)
+    (e.exact clean2 one.is_open has1 honest sure1) (e.nothing clean2 one.is_open has1)) c.in-Nothing.is in
+    (told.1 more.1, ap (λ (x : Content). x.register) same ∙ more.0)
+
+pub returns-in_err-end-clause-exact : goal.returns-in_err-end-clause-exact
+returns-in_err-end-clause-exact g c clean is_open has honest sure content read = no_answer c.from_residual-in_err-end.result _ _ c.from_residual-in_err-end.ensures.1
+
+pub returns-clause-exact : goal.returns-clause-exact
+returns-clause-exact g c = λ clean is_open has honest sure content read.
+    let s0 = state g.S.Store c.args.conn.now in
+    let s1 = state g.S.Store c.loop-before.conn in
+    let v1 = g.R.Register.view c.loop-before.register in
+    let count = c.loop-before.before in
+    let i = c.loop-before.invariant in
+    let n = c.in_ok-end.ensures in
+    let end = c.in_ok-end.end in
+    let clean1 : HasCleanDisk s1 = (let less = n.look.later.clean in omega (arith, less, clean)) in
+    let one : IsSame s0 s1 = i.look.ok clean1 is_open has in
+    let has1 : s1.now.schema ≡ desk_schema = ap (λ (d : Database). d.schema) one.now ∙ has in
+    let all : MOST ≡ count = omega arith in
+    let told = subst (λ (d : Database). (end ≡ Whole) ↔ HasNoOther (d.trees 6) MOST) one.now (n.none clean one.is_open has1) in
+    let holds = i.fronts clean1 is_open has honest sure content read in
+    let few : length content.register ≤ count = (let below = read.entries.few in omega (arith, below, all)) in
+    let whole = holds_last content.register count v1.content.register holds few in
+    let size : length content.register ≡ MOST = ap length (sym whole) ∙ holds.size ∙ sym all in
+    (told.1 (subst (HasNoOther (s0.now.trees 6)) size (no_other s0.now content.register read.entries)), whole)
 
 pub returns-in-Nothing-clause-holds : goal.returns-in-Nothing-clause-holds
 returns-in-Nothing-clause-holds g c = λ honest sure whole.
@@ -127,6 +212,7 @@ loop-before-init g c =
       later = later_none v0;
       holds = λ honest sure. none_formed v0.room v0.content (c.requires.empty honest sure);
       rows = λ clean is_open has honest sure formed. none_held (s0.now.trees 6) v0.room v0.content (c.requires.empty honest sure);
+      fronts = λ clean is_open has honest sure content read. holds_first v0.room content.register v0.content (c.requires.empty honest sure);
     }
 
 pub returns-in_err-read_entry-clause-entries : goal.returns-in_err-read_entry-clause-entries

@@ -6,7 +6,9 @@ use Rattle.sql_tables.specs.Calls.{Soundly, tables}
 use Rattle.sql_tables.specs.Schema.{register_table}
 use Rattle.sql_tables.specs.Forms.{HasForm}
 use Rattle.sql_tables.specs.Ends.{HasLooked}
-use Rattle.desk_file.specs.Reading.{HoldsFormed, HoldsRows}
+use Rattle.desk_rules.specs.Content.{Content}
+use Rattle.desk_file.specs.Reading.{HoldsFormed, HoldsRows, IsRead}
+use Rattle.desk_file.proofs.FrontLemmas.{HoldsFront}
 use Rattle.desk_file.proofs.audit.register.read_register.Given as goal
 
 -- the rows so far are held
@@ -18,4 +20,6 @@ invariant-loop-before g l = record {
   holds : IfTrusted (g.R.Register.view l.fn.register) (g.R.Register.view l.register) (HoldsFormed (g.R.Register.view l.fn.register).room (g.R.Register.view l.register).content);
   rows : Soundly g.S.Store l.fn.conn l.conn (IfTrusted (g.R.Register.view l.fn.register) (g.R.Register.view l.register) (AllByRecursion (HasForm register_table) ((tables g.S.Store l.fn.conn).trees 6)
       → HoldsRows ((tables g.S.Store l.fn.conn).trees 6) l.before (g.R.Register.view l.fn.register).room (g.R.Register.view l.register).content));
+  fronts : Soundly g.S.Store l.fn.conn l.conn (IfTrusted (g.R.Register.view l.fn.register) (g.R.Register.view l.register) ((content : Content) → IsRead (tables g.S.Store l.fn.conn) (g.R.Register.view l.fn.register).room content
+      → HoldsFront content.register l.before (g.R.Register.view l.register).content.register));
 }
