@@ -1,5 +1,5 @@
 -- Why calls on a register's tables fail: for want of memory or size, or where the device failed in them.
-use Rattle.std.proofs.Common.{◌≡◌, inl, inr, ℕ, ◌<◌, ◌≤◌, Bool, true, false, List, [], ◌∷◌, sum_by, bytes_eq, IsTrue, Result, Ok, Err, IfErr, Option, Some, None, refl, sym, ap, subst, ◌∙◌, arith, length}
+use Rattle.std.proofs.Common.{◌≡◌, inl, inr, ℕ, ◌<◌, ◌≤◌, ◌^◌, Bool, true, false, List, [], ◌∷◌, sum_by, bytes_eq, IsTrue, Result, Ok, Err, IfErr, Option, Some, None, refl, sym, ap, subst, ◌∙◌, arith, length, lit<}
 use Rattle.std.proofs.lemmas.Bool.{cases_lt}
 use Rattle.std.proofs.lemmas.List.{length-map}
 use Rattle.std.proofs.lemmas.List.Sums.{sum_by-cons}
@@ -80,6 +80,10 @@ marked x a b P trial inside none fact clean is_open has =
     record { is_open = mark.is_open; schema = mark.schema; holds = fact clean is_open has mark }
 
 -- ---- numbers of instructions
+
+-- an entry's number is one that a row can hold
+pub number_fits : (n : ℕ) → n < 1_000_000_000 → n < 2 ^ 63
+number_fits n small = let room : 1_000_000_000 < 2 ^ 63 = lit< tt in omega (arith, small, room)
 
 module _ (db : Database) (desk : IsDesk db) (n : ℕ) (i : Instructed) (is : instruction_at (history_of (content_in db)) n ≡ Some i) where
   known : (0 < n) × (n ≤ length (history_of (content_in db)))

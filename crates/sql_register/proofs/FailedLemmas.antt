@@ -34,10 +34,19 @@ module _ {X : Type 0} (r : Result X Error) (e : Error) (is : IsErrAnd r (λ hand
   pub write_fell : {Z : Type 0} (Y : Type 0) (z : Z) (a b c : State) → IsWrite (Ok z) a b → IsWrite {X = Y} (Err e) b c → IsWrite r a c
   write_fell Y z a b c first write = write_then z r a b c first (write_handed Y b c write)
 
+  -- before any call
+  pub write_none : (a : State) → IsWrite r a a
+  write_none a = subst (λ r. IsWrite r a a) (sym handed_is) (record {
+    ok = λ clean is_open has. tt;
+    err = λ clean is_open has inside. inl (record { is_open = is_open; schema = has; mode = refl; marks = refl; committed = λ i. refl });
+    why = λ clean is_open has inside out. absurd (let bad = subst IsTrue out inside in cc);
+    opened = λ clean is. is;
+    later = record { clean = omega arith; faults = omega arith; limit = refl };
+  })
+
   pub look_only : (Y : Type 0) (a b : State) → IsLook {X = Y} (Err e) a b → IsLook r a b
   look_only Y a b look = subst (λ r. IsLook r a b) (sym handed_is) (look_err e a b look)
 
-  -- before any call
   pub trial_none : (a : State) (ends : Type 0) → IsTrial r a a ends
   trial_none a ends = subst (λ r. IsTrial r a a ends) (sym handed_is) (record {
     ok = λ clean is_open has inside none. tt;

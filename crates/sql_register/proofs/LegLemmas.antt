@@ -1,17 +1,19 @@
 -- One balance is changed, and then both legs of a pair.
-use Rattle.std.proofs.Common.{◌≡◌, inr, refl, sym, ap, subst, ◌∙◌, ℕ, ◌+◌, ◌-◌, ◌<◌, ◌≤◌, ◌^◌, List, Bool, true, false, Option, Some, None, Result, Ok, Err, OnOk, arith}
+use Rattle.std.proofs.Common.{◌≡◌, ◌≢◌, inr, refl, sym, ap, subst, ◌∙◌, ℕ, ◌+◌, ◌-◌, ◌<◌, ◌≤◌, ◌^◌, List, Bool, true, false, Option, Some, None, Result, Ok, Err, OnOk, arith}
 use Rattle.std.specs.Prelude.{bytes_eq, ◌&&◌, unwrap_or}
 use Rattle.sqlite.specs.Effect.{Database}
 use Rattle.sqlite.specs.declared.error.Error.{Error}
 use Rattle.desk_codes.specs.Currency.{letters_of}
 use Rattle.desk_codes.specs.declared.currency.Ccy.{Ccy}
 use Rattle.desk_msg.specs.declared.instruction.Cash.{Cash as Amount}
-use Rattle.desk_register.specs.Changes.{FitsCash, HasCash, SidesFit, cash_at, delivered, delivering_side, moved_to, paid_over, receiving_side}
-use Rattle.desk_register.specs.declared.outcome.Outcome.TheVariants.{Settled}
+use Rattle.desk_register.specs.Changes.{FitsCash, HasCash, LacksCash, SidesFit, cash_at, delivered, delivering_side, moved_to, paid_over, receiving_side}
+use Rattle.desk_register.specs.declared.outcome.Outcome.{Outcome}
+use Rattle.desk_register.specs.declared.outcome.Outcome.TheVariants.{Lacks, Settled}
 use Rattle.desk_register.proofs.CaseLemmas.{by_bool, same_bytes}
 use Rattle.desk_rules.specs.Balances.{same_ccy}
 use Rattle.desk_rules.specs.Content.{CashBalances, Positions}
 use Rattle.desk_rules.specs.declared.history.entry.Instructed.{Instructed}
+use Rattle.desk_rules.specs.declared.history.pair.Lack.TheVariants.{Money, Securities}
 use Rattle.sql_rows.specs.Amounts.{AreAmounts, amount_at}
 use Rattle.sql_rows.specs.Changes.{SetsAmount, Takes}
 use Rattle.sql_rows.specs.declared.amounts.key.AmountKey.TheVariants as keys
@@ -19,7 +21,7 @@ use Rattle.sql_rows.specs.declared.amounts.key.Ledger.TheVariants.{Balance, Cash
 use Rattle.sql_rows.proofs.AmountLemmas.{same_amounts, same_recorded, set_amounts, short_less, unchanged_amounts}
 use Rattle.sql_tables.specs.Ends.{SparesOthers}
 use Rattle.sql_register.specs.Content.{content_in}
-use Rattle.sql_register.specs.Settling.{AmountsSo, MovesLegs, TakesCash, TakesHeld, less_cash, less_held, more_cash, more_held}
+use Rattle.sql_register.specs.Settling.{AmountsSo, Fares, MovesBoth, MovesLegs, TakesCash, TakesHeld, cash_then, less_cash, less_held, more_cash, more_held, positions_then}
 
 module _ (a b : Database) where
   set_position : (account isin : List ℕ) (amount : ℕ) → SetsAmount a b (keys.Balance account isin) amount → AmountsSo a b (moved_to (content_in a).position account isin amount) (content_in a).cash
@@ -154,4 +156,39 @@ module _ (a b c d e : Database) (earlier later from to : Instructed) (is_from : 
         (paid_over (content_in a).cash i.sender (delivering_side earlier later).sender later.instruction.cash)) is_to
         (subst (λ (i : Instructed). AmountsSo a e (delivered (content_in a).position i.instruction.account to.instruction.account isin q) (paid_over (content_in a).cash to.sender i.sender later.instruction.cash)) is_from
         (both_legs a b c d e from.instruction.account to.instruction.account isin q to.sender from.sender later.instruction.cash takes.1 pays.1 gives paid));
+  }
+
+  -- the account holds too little, and nothing has changed
+  pub legs_short : TakesHeld a b from.instruction.account isin q false → MovesLegs a b earlier later (Lacks Securities)
+  legs_short takes = record {
+    fares = subst (λ (i : Instructed). (content_in a).position i.instruction.account isin < q) is_from takes.0;
+    amounts = λ ok. takes.1;
+  }
+
+  -- the quantity is taken, and the participant has too little
+  pub legs_unpaid : TakesHeld a b from.instruction.account isin q true → TakesCash b c to.sender later.instruction.cash false → MovesLegs a c earlier later (Lacks Money)
+  legs_unpaid takes lacks = record {
+    fares = (there takes, subst (λ (i : Instructed). LacksCash (content_in a).cash i.sender later.instruction.cash) is_to (subst (λ (x : CashBalances). LacksCash x to.sender later.instruction.cash) takes.1.cash_is lacks));
+    amounts = λ ok. absurd (ok refl);
+  }
+
+-- ---- both legs or none
+
+module _ (a b c : Database) (earlier later : Instructed) (outcome : Outcome) (same : b ≡ a) (legs : MovesLegs b c earlier later outcome) where
+  fares_same : Fares (content_in a) earlier later outcome
+  fares_same = subst (λ (db : Database). Fares (content_in db) earlier later outcome) same legs.fares
+
+  -- where money does not lack, what the legs have made stays
+  pub both_moved : outcome ≢ Lacks Money → MovesBoth a c earlier later outcome
+  both_moved goes = record {
+    fares = fares_same;
+    amounts = subst (λ (db : Database). AmountsSo db c (positions_then (content_in db) earlier later outcome) (cash_then (content_in db) earlier later outcome)) same (legs.amounts goes);
+  }
+
+  -- where it does, the tables are as they were
+  pub both_back : (d : Database) → d ≡ a → AreAmounts a → outcome ≡ Lacks Money → MovesBoth a d earlier later outcome
+  both_back d back amounts lacks = record {
+    fares = fares_same;
+    amounts = subst (λ (o : Outcome). AmountsSo a d (positions_then (content_in a) earlier later o) (cash_then (content_in a) earlier later o)) (sym lacks)
+        (subst (λ (db : Database). AmountsSo a db (content_in a).position (content_in a).cash) (sym back) (same_so a amounts));
   }

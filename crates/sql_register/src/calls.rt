@@ -12,7 +12,7 @@ use sql_entries::{
     entry_at, entry_count, is_participant, kind_of, last_run, number_of, owner_of, reply_at,
     security_after,
 };
-use sql_rows::{confirmation_of, sent_at, sent_count, standing};
+use sql_rows::{AmountKey, amount, confirmation_of, sent_at, sent_count, standing};
 use sql_tables::control;
 use sqlite::Alter;
 use std::alloc::Global;
@@ -80,11 +80,17 @@ impl<S: Alter> Register for SqlRegister<S> {
     }
 
     fn outstanding(&mut self, _alloc: Global, isin: Isin) -> Result<u64, Fault> {
-        told(&mut self.stage, looking::outstanding(&mut self.conn, isin))
+        told(
+            &mut self.stage,
+            looking::recorded(&mut self.conn, &AmountKey::Security(isin)),
+        )
     }
 
     fn paid(&mut self, _alloc: Global, ccy: Ccy) -> Result<Option<u64>, Fault> {
-        told(&mut self.stage, looking::paid(&mut self.conn, ccy))
+        told(
+            &mut self.stage,
+            amount(&mut self.conn, &AmountKey::Currency(ccy)),
+        )
     }
 
     fn last_run(&mut self, _alloc: Global) -> Result<Option<Day>, Fault> {
@@ -130,12 +136,15 @@ impl<S: Alter> Register for SqlRegister<S> {
     fn position(&mut self, _alloc: Global, account: AccountId, isin: Isin) -> Result<u64, Fault> {
         told(
             &mut self.stage,
-            looking::position(&mut self.conn, account, isin),
+            looking::recorded(&mut self.conn, &AmountKey::Balance(account, isin)),
         )
     }
 
     fn cash(&mut self, _alloc: Global, bic: Bic, ccy: Ccy) -> Result<u64, Fault> {
-        told(&mut self.stage, looking::cash(&mut self.conn, bic, ccy))
+        told(
+            &mut self.stage,
+            looking::recorded(&mut self.conn, &AmountKey::Cash(bic, ccy)),
+        )
     }
 
     fn due_pair_after(
@@ -250,6 +259,9 @@ impl<S: Alter> ToldRegister for SqlRegister<S> {
         pair: &KnownPair,
         _day: Day,
     ) -> Result<Outcome, Fault> {
-        told(&mut self.stage, settling::settle_told(&mut self.conn, pair))
+        told(
+            &mut self.stage,
+            settling::settle_found(&mut self.conn, pair),
+        )
     }
 }

@@ -1,15 +1,16 @@
 //! What is looked up in the tables, as the register says it.
-ghost use Rattle.std.specs.Prelude.{◌≡◌, ◌+◌, Some, option_and_then, IfOk, IsOk};
+ghost use Rattle.std.specs.Prelude.{◌≡◌, Some, option_and_then, IfOk, IsOk};
 ghost use Rattle.desk_rules.specs.Content.{history_of};
-ghost use Rattle.desk_rules.specs.Balances.{issued, redeemed};
 ghost use Rattle.desk_rules.specs.History.{instructed, instruction_at};
 ghost use Rattle.desk_rules.specs.declared.history.entry.Instructed.{Instructed};
-ghost use Rattle.desk_register.specs.Looked.{held_cash_of, held_of, IsHoldingAfter, IsPaid};
+ghost use Rattle.desk_register.specs.Looked.{held_cash_of, held_of, IsHoldingAfter};
 ghost use Rattle.sql_register.specs.Content.{content_in};
 ghost use Rattle.sql_register.specs.Holds.{IsDesk, holding_found};
+ghost use Rattle.sql_rows.specs.Amounts.{AreAmounts};
+ghost use Rattle.sql_rows.specs.Changes.{had};
 ghost use Rattle.sql_tables.specs.Calls.{FailsForCause, Looks, Soundly, tables};
 
-use desk_codes::{AccountId, Bic, Ccy, Isin};
+use desk_codes::{AccountId, Ccy, Isin};
 use desk_register::Holding;
 use desk_rules::{Entry, Instructed};
 use sql_entries::entry_at;
@@ -18,35 +19,13 @@ use sql_tables::values::CORRUPT;
 use sqlite::{Alter, Connection, Error};
 use std::alloc::Global;
 
-/// What an account holds of a security; 0 where nothing is recorded.
-pub fn position<S: Alter>(
-    conn: &mut Connection<S>,
-    account: AccountId,
-    isin: Isin,
-) -> Result<u64, Error>
-    ensures value { Soundly S.Store conn.old conn.new (IsDesk (tables S.Store conn.old) → IfOk result (λ r. r ≡ (content_in (tables S.Store conn.old)).position account isin)) }
+/// What is recorded under a key; 0 where nothing is.
+pub fn recorded<S: Alter>(conn: &mut Connection<S>, key: &AmountKey) -> Result<u64, Error>
+    ensures value { Soundly S.Store conn.old conn.new (AreAmounts (tables S.Store conn.old) → IfOk result (λ r. r ≡ had (tables S.Store conn.old) key.now)) }
     ensures look { Looks S.Store conn.old conn.new result }
-    ensures blame { Soundly S.Store conn.old conn.new (IsDesk (tables S.Store conn.old) → FailsForCause S.Store conn.old conn.new result) }
+    ensures blame { Soundly S.Store conn.old conn.new (AreAmounts (tables S.Store conn.old) → FailsForCause S.Store conn.old conn.new result) }
 {
-    Ok(amount(conn, &AmountKey::Balance(account, isin))?.unwrap_or(0))
-}
-
-/// What a participant has of a currency, in minor units; 0 where nothing is recorded.
-pub fn cash<S: Alter>(conn: &mut Connection<S>, bic: Bic, ccy: Ccy) -> Result<u64, Error>
-    ensures value { Soundly S.Store conn.old conn.new (IsDesk (tables S.Store conn.old) → IfOk result (λ r. r ≡ (content_in (tables S.Store conn.old)).cash bic ccy)) }
-    ensures look { Looks S.Store conn.old conn.new result }
-    ensures blame { Soundly S.Store conn.old conn.new (IsDesk (tables S.Store conn.old) → FailsForCause S.Store conn.old conn.new result) }
-{
-    Ok(amount(conn, &AmountKey::Cash(bic, ccy))?.unwrap_or(0))
-}
-
-/// What was issued of a security less what was redeemed.
-pub fn outstanding<S: Alter>(conn: &mut Connection<S>, isin: Isin) -> Result<u64, Error>
-    ensures value { Soundly S.Store conn.old conn.new (IsDesk (tables S.Store conn.old) → IfOk result (λ r. redeemed (history_of (content_in (tables S.Store conn.old))) isin + r ≡ issued (history_of (content_in (tables S.Store conn.old))) isin)) }
-    ensures look { Looks S.Store conn.old conn.new result }
-    ensures blame { Soundly S.Store conn.old conn.new (IsDesk (tables S.Store conn.old) → FailsForCause S.Store conn.old conn.new result) }
-{
-    Ok(amount(conn, &AmountKey::Security(isin))?.unwrap_or(0))
+    Ok(amount(conn, key)?.unwrap_or(0))
 }
 
 /// What all registered accounts hold of a security.
@@ -56,15 +35,6 @@ pub fn held<S: Alter>(conn: &mut Connection<S>, isin: Isin) -> Result<u64, Error
     ensures blame { Soundly S.Store conn.old conn.new (IsDesk (tables S.Store conn.old) → FailsForCause S.Store conn.old conn.new result) }
 {
     sql_rows::held(conn, isin)
-}
-
-/// What was paid in of a currency less what was paid out, in minor units; None before any pay in.
-pub fn paid<S: Alter>(conn: &mut Connection<S>, ccy: Ccy) -> Result<Option<u64>, Error>
-    ensures value { Soundly S.Store conn.old conn.new (IsDesk (tables S.Store conn.old) → IfOk result (λ r. IsPaid (history_of (content_in (tables S.Store conn.old))) ccy r)) }
-    ensures look { Looks S.Store conn.old conn.new result }
-    ensures blame { Soundly S.Store conn.old conn.new (IsDesk (tables S.Store conn.old) → FailsForCause S.Store conn.old conn.new result) }
-{
-    amount(conn, &AmountKey::Currency(ccy))
 }
 
 /// What all registered participants have of a currency, in minor units.

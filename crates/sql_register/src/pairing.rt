@@ -13,21 +13,19 @@ use desk_rules::State;
 use sql_rows::set_standing;
 use sqlite::{Alter, Connection, Error};
 
-/// Lets two instructions stand so, as each other's mates.
+/// Lets two instructions stand so, as each other's mates. Numbers in no order are told as tables that have broken their word.
 pub fn stand_both<S: Alter>(
     conn: &mut Connection<S>,
     earlier: u64,
     later: u64,
     new_state: State,
 ) -> Result<(), Error>
-    requires first { 0 < earlier }
-    requires order { earlier < later }
-    requires small { later < 1_000_000_000 }
     requires instruction { new_state ≢ State.NoInstruction }
     ensures changed { Soundly S.Store conn.old conn.new (AreStandings (tables S.Store conn.old) → OnOk result (StandBoth (tables S.Store conn.old) (tables S.Store conn.new) earlier later new_state)) }
     ensures write { Writes S.Store conn.old conn.new result }
-    ensures blame { Soundly S.Store conn.old conn.new (StandAlready (tables S.Store conn.old) earlier later → FailsForCause S.Store conn.old conn.new result) }
+    ensures blame { Soundly S.Store conn.old conn.new (StandAlready (tables S.Store conn.old) earlier later → 0 < earlier → earlier < later → later < 1_000_000_000 → FailsForCause S.Store conn.old conn.new result) }
 {
+    in_order(earlier, later)?;
     set_standing(conn, earlier, later, new_state)?;
     set_standing(conn, later, earlier, new_state)
 }
@@ -38,7 +36,6 @@ pub fn pair<S: Alter>(conn: &mut Connection<S>, earlier: u64, later: u64) -> Res
     ensures write { Writes S.Store conn.old conn.new result }
     ensures blame { Soundly S.Store conn.old conn.new (IsDesk (tables S.Store conn.old) → CanPair (content_in (tables S.Store conn.old)) earlier later → FailsForCause S.Store conn.old conn.new result) }
 {
-    in_order(earlier, later)?;
     stand_both(conn, earlier, later, State::Matched(Reason::Future))
 }
 
@@ -52,6 +49,5 @@ pub fn cancel_pair<S: Alter>(
     ensures write { Writes S.Store conn.old conn.new result }
     ensures blame { Soundly S.Store conn.old conn.new (IsDesk (tables S.Store conn.old) → CanCancelPair (content_in (tables S.Store conn.old)) earlier later → FailsForCause S.Store conn.old conn.new result) }
 {
-    in_order(earlier, later)?;
     stand_both(conn, earlier, later, State::Cancelled)
 }

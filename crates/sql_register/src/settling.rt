@@ -6,13 +6,12 @@ ghost use Rattle.sql_tables.specs.Calls.{FailsForCause, Looks, Soundly, Writes, 
 ghost use Rattle.sql_tables.specs.Ends.{Stays};
 ghost use Rattle.sql_rows.specs.Amounts.{AreAmounts};
 ghost use Rattle.desk_register.specs.Changes.{CanCancelPair, CanSettle, FitsCash, IsPairAt, SidesFit, TriesPair};
-ghost use Rattle.desk_register.specs.Told.{IsKnownAt, waiting};
+ghost use Rattle.desk_register.specs.Told.{waiting};
 ghost use Rattle.sql_register.specs.Content.{content_in};
 ghost use Rattle.sql_register.specs.Holds.{Becomes, IsDesk};
 ghost use Rattle.sql_register.specs.Settling.{state_then, more_held, more_cash, AmountsSo, IsMarked, IsTrial, MovesBoth, MovesLegs, TakesCash, TakesHeld};
 
 use crate::looking::instruction;
-use crate::numbers::in_order;
 use crate::pairing::stand_both;
 use desk_codes::{AccountId, Bic, Isin};
 use desk_msg::{Cash, Reason};
@@ -173,7 +172,7 @@ fn pair_at<S: Alter>(
 /// Tries a matched pair that was found: settles it, and moves its quantity between the accounts and its cash between the
 /// participants, where it is covered, else changes the reason alone. It works in a savepoint of its own, so it is of a
 /// transaction that has none. A pair whose numbers are in no order is told as tables that have broken their word.
-fn settle_found<S: Alter>(conn: &mut Connection<S>, pair: &KnownPair) -> Result<Outcome, Error>
+pub fn settle_found<S: Alter>(conn: &mut Connection<S>, pair: &KnownPair) -> Result<Outcome, Error>
     ensures changed { Soundly S.Store conn.old conn.new (IsDesk (tables S.Store conn.old) → (day : ℕ) → CanSettle (content_in (tables S.Store conn.old)) pair.now.number day
         → IsPairAt (content_in (tables S.Store conn.old)) pair.now.number pair.now.mate pair.now.earlier pair.now.later
         → (state S.Store conn.old).in_transaction ≡ true → (state S.Store conn.old).marks ≡ [] → IfOk result (λ outcome. IsDesk (tables S.Store conn.new) × TriesPair (content_in (tables S.Store conn.old)) pair.now.number outcome (content_in (tables S.Store conn.new)))) }
@@ -181,7 +180,6 @@ fn settle_found<S: Alter>(conn: &mut Connection<S>, pair: &KnownPair) -> Result<
     ensures blame { Soundly S.Store conn.old conn.new (IsDesk (tables S.Store conn.old) → (day : ℕ) → CanSettle (content_in (tables S.Store conn.old)) pair.now.number day
         → IsPairAt (content_in (tables S.Store conn.old)) pair.now.number pair.now.mate pair.now.earlier pair.now.later → (state S.Store conn.old).in_transaction ≡ true → (state S.Store conn.old).marks ≡ [] → FailsForCause S.Store conn.old conn.new result) }
 {
-    in_order(pair.mate, pair.number)?;
     let outcome = move_both(conn, pair)?;
     stand_both(conn, pair.mate, pair.number, state_then(outcome))?;
     release(conn)?;
@@ -203,18 +201,6 @@ pub fn settle_pair<S: Alter>(
     settle_found(conn, &pair)
 }
 
-/// Tries a matched pair that is told, as `settle_found` does.
-pub fn settle_told<S: Alter>(conn: &mut Connection<S>, told: &KnownPair) -> Result<Outcome, Error>
-    ensures changed { Soundly S.Store conn.old conn.new (IsDesk (tables S.Store conn.old) → (day : ℕ) → CanSettle (content_in (tables S.Store conn.old)) told.now.number day
-        → IsKnownAt (content_in (tables S.Store conn.old)) told.now.number told.now
-        → (state S.Store conn.old).in_transaction ≡ true → (state S.Store conn.old).marks ≡ [] → IfOk result (λ outcome. IsDesk (tables S.Store conn.new) × TriesPair (content_in (tables S.Store conn.old)) told.now.number outcome (content_in (tables S.Store conn.new)))) }
-    ensures trial { IsTrial result (state S.Store conn.old) (state S.Store conn.new) (Stays (state S.Store conn.old) (state S.Store conn.new)) }
-    ensures blame { Soundly S.Store conn.old conn.new (IsDesk (tables S.Store conn.old) → (day : ℕ) → CanSettle (content_in (tables S.Store conn.old)) told.now.number day
-        → IsKnownAt (content_in (tables S.Store conn.old)) told.now.number told.now → (state S.Store conn.old).in_transaction ≡ true → (state S.Store conn.old).marks ≡ [] → FailsForCause S.Store conn.old conn.new result) }
-{
-    settle_found(conn, told)
-}
-
 /// Lets both instructions of a matched pair, by their numbers, wait for what it lacks.
 pub fn wait_for<S: Alter>(
     conn: &mut Connection<S>,
@@ -226,6 +212,5 @@ pub fn wait_for<S: Alter>(
     ensures write { Writes S.Store conn.old conn.new result }
     ensures blame { Soundly S.Store conn.old conn.new (IsDesk (tables S.Store conn.old) → CanCancelPair (content_in (tables S.Store conn.old)) earlier later → FailsForCause S.Store conn.old conn.new result) }
 {
-    in_order(earlier, later)?;
     stand_both(conn, earlier, later, state_then(Outcome::Lacks(lack)))
 }

@@ -1,4 +1,4 @@
-use Rattle.std.proofs.Common.{Ok, Err, Result, OnOk, IfSome, Some, length, true, ◌≡◌, ◌∙◌, ℕ, List, ap, subst, sym, arith, ◌≢◌, ◌+◌, ◌<◌, refl}
+use Rattle.std.proofs.Common.{Ok, Err, Result, OnOk, Some, length, true, ◌≡◌, ◌∙◌, ℕ, List, ap, subst, sym, arith, ◌≢◌, ◌+◌, ◌<◌, refl}
 use Rattle.std.proofs.lemmas.Result.{err_from_is_err_and}
 use Rattle.sqlite.specs.Effect.{Database}
 use Rattle.sqlite.specs.Held.{state}
@@ -23,6 +23,7 @@ use Rattle.desk_rules.specs.declared.history.standing.State.TheVariants.{NoInstr
 use Rattle.sql_entries.specs.Entries.{AreEntries}
 use Rattle.sql_tables.proofs.ResultLemmas.{no_error, on_error}
 use Rattle.sql_register.proofs.CauseLemmas.{caused_error, caused_from, looked, wrote_then}
+use Rattle.sql_register.proofs.ReadLemmas.{was_clean}
 use Rattle.sql_register.proofs.appending.append_cancel.Goals as goal
 
 becomes : (old d0 : Database) (d1 new : State) (sender : List ℕ) (order : CancelOrder) (reply : Reply) (room k : ℕ) (r : Result (Unit {0}) Error) → d0 ≡ old → (desk : IsDesk d0) → (can : CanAppend room (Cancel sender order) reply (content_in d0))
@@ -41,8 +42,8 @@ returns-clause-changed g c clean is_open has desk room can =
     let sender = c.args.sender in
     let order = c.args.order.now in
     let reply = c.args.reply.now in
-    let clean1 : HasCleanDisk d1 = omega (arith, clean, c.ask.ensures.write.later.clean) in
-    let clean0 : HasCleanDisk d0 = omega (arith, clean1, c.in_ok-add_row.ensures.write.later.clean) in
+    let clean1 : HasCleanDisk d1 = was_clean _ _ c.ask.ensures.write.later clean in
+    let clean0 : HasCleanDisk d0 = was_clean _ _ c.in_ok-add_row.ensures.write.later clean1 in
     let same = c.in_ok-number.ensures.look.ok clean0 is_open has in
     let found = c.in_ok-number.ensures.value clean0 is_open has (content_in old.now).register desk.entries in
     let desk0 : IsDesk d0.now = subst IsDesk (sym same.now) desk in
@@ -117,8 +118,8 @@ returns-clause-blame g c clean is_open has desk room small can =
     let order = c.args.order.now in
     let reply = c.args.reply.now in
     let n = c.in_ok-named.named in
-    let clean1 : HasCleanDisk d1 = omega (arith, clean, c.ask.ensures.write.later.clean) in
-    let clean0 : HasCleanDisk d0 = omega (arith, clean1, c.in_ok-add_row.ensures.write.later.clean) in
+    let clean1 : HasCleanDisk d1 = was_clean _ _ c.ask.ensures.write.later clean in
+    let clean0 : HasCleanDisk d0 = was_clean _ _ c.in_ok-add_row.ensures.write.later clean1 in
     let found = c.in_ok-number.ensures.value clean0 is_open has (content_in s0.now).register desk.entries in
     let key : number_of_key (history_of (content_in s0.now)) (FromParticipant sender) order.previous ≡ Some n = sym found ∙ c.in-Some.is ∙ ap Some (sym c.in_ok-named.ensures.same) in
     let Asks : Type 0 = AreStandings d1.now × ((standing_in d1.now n).state ≢ NoInstruction) in

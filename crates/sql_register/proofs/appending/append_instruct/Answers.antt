@@ -17,6 +17,8 @@ use Rattle.sql_tables.proofs.CallLemmas.{write_then}
 use Rattle.sql_tables.proofs.ResultLemmas.{on_error}
 use Rattle.sql_register.proofs.CauseLemmas.{caused_from, wrote}
 use Rattle.desk_rules.specs.declared.history.standing.State.TheVariants.{NoInstruction}
+use Rattle.sql_register.proofs.FailedLemmas.{not_done, write_handed}
+use Rattle.sql_register.proofs.ReadLemmas.{was_clean}
 use Rattle.sql_register.proofs.appending.append_instruct.Goals as goal
 
 becomes : (old d1 new : State) (i : Instructed) (reply : Reply) (room n : ℕ) (r : Result (Unit {0}) Error) → (desk : IsDesk old.now) → (can : CanAppend room (Instruct i.sender i.instruction) reply (content_in old.now))
@@ -31,7 +33,7 @@ returns-clause-changed g c clean is_open has desk room can =
     let d1 = state g.S.Store c.add_row.new.conn in
     let i = c.args.instructed.now in
     let reply = c.args.reply.now in
-    let clean1 : HasCleanDisk d1 = omega (arith, clean, c.add_standing.ensures.write.later.clean) in
+    let clean1 : HasCleanDisk d1 = was_clean _ _ c.add_standing.ensures.write.later clean in
     let stays1 = c.in_ok-number.ensures.write.ok clean1 is_open has in
     let both = c.in_ok-number.ensures.added clean1 is_open has (content_in old.now).register desk.entries in
     let added = row_added old.now d1.now (content_in old.now).register (Instruct i.sender i.instruction) reply c.in_ok-number.number both c.in_ok-number.ensures.within c.in_ok-number.ensures.formed c.in_ok-number.ensures.short in
@@ -66,3 +68,12 @@ returns-clause-blame g c clean is_open has desk room small can =
 pub returns-clause-write : goal.returns-clause-write
 returns-clause-write g c =
     write_then c.in_ok-number.number c.add_standing.result (state g.S.Store c.args.conn.now) (state g.S.Store c.add_row.new.conn) (state g.S.Store c.add_standing.new.conn) c.in_ok-number.ensures.write c.add_standing.ensures.write
+
+pub returns-in_err-number-clause-changed : goal.returns-in_err-number-clause-changed
+returns-in_err-number-clause-changed g c clean is_open has desk room can = not_done c.from_residual.result c.in_err-number.field-0.0 c.from_residual.ensures.1 _
+
+pub returns-in_err-number-clause-write : goal.returns-in_err-number-clause-write
+returns-in_err-number-clause-write g c = write_handed c.from_residual.result c.in_err-number.field-0.0 c.from_residual.ensures.1 ℕ (state g.S.Store c.args.conn.now) (state g.S.Store c.add_row.new.conn) c.in_err-number.ensures.write
+
+pub add_standing-requires : goal.add_standing-requires
+add_standing-requires g c = c.in_ok-number.ensures.small

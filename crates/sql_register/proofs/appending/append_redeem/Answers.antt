@@ -1,5 +1,4 @@
 use Rattle.std.proofs.Common.{Ok, Err, Result, OnOk, ◌≡◌, ℕ, ◌-◌, ◌≤◌, length, arith, ◌+◌, ◌<◌}
-use Rattle.std.proofs.lemmas.Result.{err_from_is_err_and}
 use Rattle.sqlite.specs.Held.{state}
 use Rattle.sqlite.specs.State.{State, HasCleanDisk}
 use Rattle.sqlite.specs.declared.error.Error.{Error}
@@ -15,10 +14,12 @@ use Rattle.sql_register.specs.Content.{content_in}
 use Rattle.sql_register.specs.Holds.{Becomes, IsDesk}
 use Rattle.sql_register.proofs.AppendedMoves.{redeem_amounts, redeem_becomes, redeem_enough, redeem_enough_total}
 use Rattle.sql_register.proofs.AppendedRow.{row_added}
-use Rattle.sql_tables.proofs.CallLemmas.{later_then, write_err, write_then}
+use Rattle.sql_tables.proofs.CallLemmas.{later_then, write_then}
 use Rattle.sql_tables.proofs.ResultLemmas.{on_error}
 use Rattle.sql_register.proofs.CauseLemmas.{caused_error, caused_from, wrote, wrote_then}
 use Rattle.sql_rows.specs.declared.amounts.key.AmountKey.TheVariants as keys
+use Rattle.sql_register.proofs.FailedLemmas.{not_done, write_fell, write_handed}
+use Rattle.sql_register.proofs.ReadLemmas.{was_clean}
 use Rattle.sql_register.proofs.appending.append_redeem.Goals as goal
 
 becomes : (old d1 d2 new : State) (m : Movement) (reply : Reply) (room : ℕ) (r : Result (Unit {0}) Error) → (desk : IsDesk old.now) → (can : CanAppend room (Redeem m) reply (content_in old.now)) → RowAdded old.now d1.now (content_in old.now).register (Redeem m) reply
@@ -34,8 +35,8 @@ returns-clause-changed g c clean is_open has desk room can =
     let d2 = state g.S.Store c.take_off.new.conn in
     let m = c.args.movement.now in
     let reply = c.args.reply.now in
-    let clean2 : HasCleanDisk d2 = omega (arith, clean, c.take_off-2.ensures.write.later.clean) in
-    let clean1 : HasCleanDisk d1 = omega (arith, clean2, c.in_ok-take_off.ensures.write.later.clean) in
+    let clean2 : HasCleanDisk d2 = was_clean _ _ c.take_off-2.ensures.write.later clean in
+    let clean1 : HasCleanDisk d1 = was_clean _ _ c.in_ok-take_off.ensures.write.later clean2 in
     let stays1 = c.in_ok-add_row.ensures.write.ok clean1 is_open has in
     let added = row_added old.now d1.now (content_in old.now).register (Redeem m) reply c.in_ok-add_row.field-0 (c.in_ok-add_row.ensures.added clean1 is_open has (content_in old.now).register desk.entries) c.in_ok-add_row.ensures.within c.in_ok-add_row.ensures.formed c.in_ok-add_row.ensures.short in
     let stays2 = c.in_ok-take_off.ensures.write.ok clean2 stays1.is_open stays1.schema in
@@ -89,8 +90,7 @@ returns-in_err-take_off-clause-write g c =
     let s0 = state g.S.Store c.args.conn.now in
     let s1 = state g.S.Store c.add_row.new.conn in
     let s2 = state g.S.Store c.take_off.new.conn in
-    let p = err_from_is_err_and c.from_residual-in_err-take_off.result c.from_residual-in_err-take_off.ensures.1 in
-    rw (p.1, p.2) (write_then c.in_ok-add_row.field-0 (Err c.in_err-take_off.field-0.0) s0 s1 s2 c.in_ok-add_row.ensures.write (write_err c.in_err-take_off.field-0.0 s1 s2 c.in_err-take_off.ensures.write))
+    write_fell c.from_residual-in_err-take_off.result c.in_err-take_off.field-0.0 c.from_residual-in_err-take_off.ensures.1 (Unit {0}) c.in_ok-add_row.field-0 s0 s1 s2 c.in_ok-add_row.ensures.write c.in_err-take_off.ensures.write
 
 pub returns-clause-write : goal.returns-clause-write
 returns-clause-write g c =
@@ -99,3 +99,12 @@ returns-clause-write g c =
     let s2 = state g.S.Store c.take_off.new.conn in
     let s3 = state g.S.Store c.take_off-2.new.conn in
     write_then c.in_ok-take_off.field-0 c.take_off-2.result s0 s2 s3 (write_then c.in_ok-add_row.field-0 (Ok c.in_ok-take_off.field-0) s0 s1 s2 c.in_ok-add_row.ensures.write c.in_ok-take_off.ensures.write) c.take_off-2.ensures.write
+
+pub returns-in_err-add_row-clause-changed : goal.returns-in_err-add_row-clause-changed
+returns-in_err-add_row-clause-changed g c clean is_open has desk room can = not_done c.from_residual.result c.in_err-add_row.field-0.0 c.from_residual.ensures.1 _
+
+pub returns-in_err-add_row-clause-write : goal.returns-in_err-add_row-clause-write
+returns-in_err-add_row-clause-write g c = write_handed c.from_residual.result c.in_err-add_row.field-0.0 c.from_residual.ensures.1 ℕ (state g.S.Store c.args.conn.now) (state g.S.Store c.add_row.new.conn) c.in_err-add_row.ensures.write
+
+pub returns-in_err-take_off-clause-changed : goal.returns-in_err-take_off-clause-changed
+returns-in_err-take_off-clause-changed g c clean is_open has desk room can = not_done c.from_residual-in_err-take_off.result c.in_err-take_off.field-0.0 c.from_residual-in_err-take_off.ensures.1 _

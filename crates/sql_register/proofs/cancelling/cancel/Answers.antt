@@ -11,6 +11,8 @@ use Rattle.sql_register.specs.Holds.{Becomes, IsDesk}
 use Rattle.sql_register.proofs.StandingContent.{cancels}
 use Rattle.sql_register.proofs.CauseLemmas.{above, below}
 use Rattle.sql_register.proofs.PairCauses.{is_some}
+use Rattle.sql_tables.proofs.ResultLemmas.{no_error}
+use Rattle.sql_register.proofs.FailedLemmas.{not_done, write_none}
 use Rattle.sql_register.proofs.cancelling.cancel.Goals as goal
 
 becomes : (old new : State) (n : ℕ) (r : Result (Unit {0}) Error) → IsDesk old.now → CanCancel (content_in old.now) n → OnOk r (Stays old new)
@@ -28,10 +30,16 @@ returns-clause-changed g c clean is_open has desk can =
 pub returns-in_err-number-clause-blame : goal.returns-in_err-number-clause-blame
 returns-in_err-number-clause-blame g c clean is_open has desk can =
     let db = (state g.S.Store c.args.conn.now).now in
-    absurd (let ok = c.in_err-number.ensures.all (above db desk c.args.number can.instructed can.is_instruction) (below db desk c.args.number can.instructed can.is_instruction) in let bad = ok in cc)
+    absurd (no_error {X = ℕ} (Err c.in_err-number.field-0.0) (λ e. ⊥) (c.in_err-number.ensures.all (above db desk c.args.number can.instructed can.is_instruction) (below db desk c.args.number can.instructed can.is_instruction)))
 
 pub returns-clause-blame : goal.returns-clause-blame
 returns-clause-blame g c clean is_open has desk can =
     let s0 = state g.S.Store c.args.conn.now in
     let some : (standing_in s0.now c.args.number).state ≢ NoInstruction = is_some (standing_in s0.now c.args.number).state Unmatched can.unmatched (λ e. cc) in
     c.set_state.ensures.blame clean is_open has desk.standings (subst (λ k. (standing_in s0.now k).state ≢ NoInstruction) (sym c.in_ok-number.ensures.same) some)
+
+pub returns-in_err-number-clause-changed : goal.returns-in_err-number-clause-changed
+returns-in_err-number-clause-changed g c clean is_open has desk can = not_done c.from_residual.result c.in_err-number.field-0.0 c.from_residual.ensures.1 _
+
+pub returns-in_err-number-clause-write : goal.returns-in_err-number-clause-write
+returns-in_err-number-clause-write g c = write_none c.from_residual.result c.in_err-number.field-0.0 c.from_residual.ensures.1 (state g.S.Store c.args.conn.now)

@@ -6,6 +6,7 @@ use Rattle.desk_rules.specs.declared.history.entry.Entry.{Entry}
 use Rattle.sql_tables.specs.Ends.{ForCause}
 use Rattle.sql_tables.proofs.ResultLemmas.{no_error, on_error}
 use Rattle.sql_register.specs.Content.{content_in}
+use Rattle.sql_register.proofs.FailedLemmas.{look_only, no_value}
 use Rattle.sql_register.proofs.looking.instruction.Goals as goal
 
 pub returns-in_err-found-clause-blame : goal.returns-in_err-found-clause-blame
@@ -20,3 +21,9 @@ returns-clause-blame g c clean is_open has desk i is =
     let s0 = state g.S.Store c.args.conn.now in
     let found = c.in_ok-found.ensures.value clean is_open has (content_in s0.now).register desk.entries in
     no_error c.instructed_by.result (ForCause s0 (state g.S.Store c.entry_at.new.conn)) (c.instructed_by.ensures.all i (ap (λ (o : Option Entry). option_and_then instructed o) found ∙ is))
+
+pub returns-in_err-found-clause-value : goal.returns-in_err-found-clause-value
+returns-in_err-found-clause-value g c clean is_open has desk = no_value c.from_residual.result c.in_err-found.field-0.0 c.from_residual.ensures.1 _
+
+pub returns-in_err-found-clause-look : goal.returns-in_err-found-clause-look
+returns-in_err-found-clause-look g c = look_only c.from_residual.result c.in_err-found.field-0.0 c.from_residual.ensures.1 (Option Entry) (state g.S.Store c.args.conn.now) (state g.S.Store c.entry_at.new.conn) c.in_err-found.ensures.look

@@ -1,4 +1,4 @@
-use Rattle.std.proofs.Common.{◌∙◌, arith, ap, sym, subst, Some}
+use Rattle.std.proofs.Common.{◌∙◌, ap, sym, subst, Some}
 use Rattle.sqlite.specs.Held.{state}
 use Rattle.sqlite.specs.State.{HasCleanDisk}
 use Rattle.desk_register.specs.Changes.{empty_content}
@@ -14,6 +14,7 @@ use Rattle.sql_register.specs.Holds.{Becomes}
 use Rattle.sql_register.specs.Made.{HasNoAmounts}
 use Rattle.sql_register.proofs.MadeLemmas.{fallen_kept, written_kept}
 use Rattle.sql_register.proofs.EmptyContent.{blank_empty, empty_becomes, no_amounts, version_empty}
+use Rattle.sql_register.proofs.ReadLemmas.{was_clean}
 use Rattle.sql_register.proofs.making.make.Goals as goal
 
 pub returns-clause-made : goal.returns-clause-made
@@ -22,9 +23,9 @@ returns-clause-made g c clean is_open blank =
     let s2 = state g.S.Store c.make_tables.new.conn in
     let s3 = state g.S.Store c.set_version.new.conn in
     let s4 = state g.S.Store c.commit.new.conn in
-    let clean3 : HasCleanDisk s3 = omega (arith, clean, c.commit.ensures.later.clean) in
-    let clean2 : HasCleanDisk s2 = omega (arith, clean3, c.set_version.ensures.write.later.clean) in
-    let clean1 : HasCleanDisk s1 = omega (arith, clean2, c.make_tables.ensures.later.clean) in
+    let clean3 : HasCleanDisk s3 = was_clean _ _ c.commit.ensures.later clean in
+    let clean2 : HasCleanDisk s2 = was_clean _ _ c.set_version.ensures.write.later clean3 in
+    let clean1 : HasCleanDisk s1 = was_clean _ _ c.make_tables.ensures.later clean2 in
     let begun = c.in_ok-begin_making.ensures.ok clean1 is_open blank in
     let made = c.in_ok-make_tables.ensures.made clean2 begun.is_open (blank_empty s1.now (ap (λ d. d.schema) begun.now ∙ blank)) in
     let stays = c.in_ok-set_version.ensures.write.ok clean3 made.is_open made.empty.schema_is in
@@ -45,9 +46,9 @@ returns-clause-outside g c clean blank =
     let s1 = state g.S.Store c.begin_making.new.conn in
     let s2 = state g.S.Store c.make_tables.new.conn in
     let s3 = state g.S.Store c.set_version.new.conn in
-    let clean3 : HasCleanDisk s3 = omega (arith, clean, c.commit.ensures.later.clean) in
-    let clean2 : HasCleanDisk s2 = omega (arith, clean3, c.set_version.ensures.write.later.clean) in
-    let clean1 : HasCleanDisk s1 = omega (arith, clean2, c.make_tables.ensures.later.clean) in
+    let clean3 : HasCleanDisk s3 = was_clean _ _ c.commit.ensures.later clean in
+    let clean2 : HasCleanDisk s2 = was_clean _ _ c.set_version.ensures.write.later clean3 in
+    let clean1 : HasCleanDisk s1 = was_clean _ _ c.make_tables.ensures.later clean2 in
     c.in_ok-begin_making.ensures.outside clean1 blank
 
 pub returns-in_err-make_tables-clause-kept : goal.returns-in_err-make_tables-clause-kept
@@ -55,7 +56,7 @@ returns-in_err-make_tables-clause-kept g c clean is_open blank =
     let s0 = state g.S.Store c.args.conn.now in
     let s1 = state g.S.Store c.begin_making.new.conn in
     let s2 = state g.S.Store c.make_tables.new.conn in
-    let clean1 : HasCleanDisk s1 = omega (arith, clean, c.make_tables.ensures.later.clean) in
+    let clean1 : HasCleanDisk s1 = was_clean _ _ c.make_tables.ensures.later clean in
     let begun = c.in_ok-begin_making.ensures.ok clean1 is_open blank in
     kept_then c.from_residual-in_err-make_tables.result s0 s1 s2 begun.committed (c.in_err-make_tables.ensures.kept clean begun.is_open begun.mode (blank_empty s1.now (ap (λ d. d.schema) begun.now ∙ blank)))
 
@@ -65,8 +66,8 @@ returns-in_err-set_version-clause-kept g c clean is_open blank =
     let s1 = state g.S.Store c.begin_making.new.conn in
     let s2 = state g.S.Store c.make_tables.new.conn in
     let s3 = state g.S.Store c.set_version.new.conn in
-    let clean2 : HasCleanDisk s2 = omega (arith, clean, c.set_version.ensures.write.later.clean) in
-    let clean1 : HasCleanDisk s1 = omega (arith, clean2, c.make_tables.ensures.later.clean) in
+    let clean2 : HasCleanDisk s2 = was_clean _ _ c.set_version.ensures.write.later clean in
+    let clean1 : HasCleanDisk s1 = was_clean _ _ c.make_tables.ensures.later clean2 in
     let begun = c.in_ok-begin_making.ensures.ok clean1 is_open blank in
     let made = c.in_ok-make_tables.ensures.made clean2 begun.is_open (blank_empty s1.now (ap (λ d. d.schema) begun.now ∙ blank)) in
     kept_then c.from_residual-in_err-set_version.result s0 s2 s3 (made.committed begun.mode ∙ begun.committed)
@@ -79,9 +80,9 @@ returns-in_err-commit-clause-kept g c clean is_open blank =
     let s2 = state g.S.Store c.make_tables.new.conn in
     let s3 = state g.S.Store c.set_version.new.conn in
     let s4 = state g.S.Store c.commit.new.conn in
-    let clean3 : HasCleanDisk s3 = omega (arith, clean, c.commit.ensures.later.clean) in
-    let clean2 : HasCleanDisk s2 = omega (arith, clean3, c.set_version.ensures.write.later.clean) in
-    let clean1 : HasCleanDisk s1 = omega (arith, clean2, c.make_tables.ensures.later.clean) in
+    let clean3 : HasCleanDisk s3 = was_clean _ _ c.commit.ensures.later clean in
+    let clean2 : HasCleanDisk s2 = was_clean _ _ c.set_version.ensures.write.later clean3 in
+    let clean1 : HasCleanDisk s1 = was_clean _ _ c.make_tables.ensures.later clean2 in
     let begun = c.in_ok-begin_making.ensures.ok clean1 is_open blank in
     let made = c.in_ok-make_tables.ensures.made clean2 begun.is_open (blank_empty s1.now (ap (λ d. d.schema) begun.now ∙ blank)) in
     let stays = c.in_ok-set_version.ensures.write.ok clean3 made.is_open made.empty.schema_is in
@@ -98,7 +99,7 @@ returns-in_err-make_tables-clause-blame g c clean is_open blank outside =
     let s0 = state g.S.Store c.args.conn.now in
     let s1 = state g.S.Store c.begin_making.new.conn in
     let s2 = state g.S.Store c.make_tables.new.conn in
-    let clean1 : HasCleanDisk s1 = omega (arith, clean, c.make_tables.ensures.later.clean) in
+    let clean1 : HasCleanDisk s1 = was_clean _ _ c.make_tables.ensures.later clean in
     let begun = c.in_ok-begin_making.ensures.ok clean1 is_open blank in
     caused_on c.from_residual-in_err-make_tables.result c.in_err-make_tables.field-0.0 s0 s1 s2 c.from_residual-in_err-make_tables.ensures.1 c.begin_making.ensures.later c.make_tables.ensures.later
     (c.in_err-make_tables.ensures.blame clean begun.is_open (blank_empty s1.now (ap (λ d. d.schema) begun.now ∙ blank)))
@@ -109,8 +110,8 @@ returns-in_err-set_version-clause-blame g c clean is_open blank outside =
     let s1 = state g.S.Store c.begin_making.new.conn in
     let s2 = state g.S.Store c.make_tables.new.conn in
     let s3 = state g.S.Store c.set_version.new.conn in
-    let clean2 : HasCleanDisk s2 = omega (arith, clean, c.set_version.ensures.write.later.clean) in
-    let clean1 : HasCleanDisk s1 = omega (arith, clean2, c.make_tables.ensures.later.clean) in
+    let clean2 : HasCleanDisk s2 = was_clean _ _ c.set_version.ensures.write.later clean in
+    let clean1 : HasCleanDisk s1 = was_clean _ _ c.make_tables.ensures.later clean2 in
     let begun = c.in_ok-begin_making.ensures.ok clean1 is_open blank in
     let made = c.in_ok-make_tables.ensures.made clean2 begun.is_open (blank_empty s1.now (ap (λ d. d.schema) begun.now ∙ blank)) in
     let later = later_then s0 s1 s2 c.begin_making.ensures.later c.make_tables.ensures.later in
@@ -124,9 +125,9 @@ returns-in_err-commit-clause-blame g c clean is_open blank outside =
     let s2 = state g.S.Store c.make_tables.new.conn in
     let s3 = state g.S.Store c.set_version.new.conn in
     let s4 = state g.S.Store c.commit.new.conn in
-    let clean3 : HasCleanDisk s3 = omega (arith, clean, c.commit.ensures.later.clean) in
-    let clean2 : HasCleanDisk s2 = omega (arith, clean3, c.set_version.ensures.write.later.clean) in
-    let clean1 : HasCleanDisk s1 = omega (arith, clean2, c.make_tables.ensures.later.clean) in
+    let clean3 : HasCleanDisk s3 = was_clean _ _ c.commit.ensures.later clean in
+    let clean2 : HasCleanDisk s2 = was_clean _ _ c.set_version.ensures.write.later clean3 in
+    let clean1 : HasCleanDisk s1 = was_clean _ _ c.make_tables.ensures.later clean2 in
     let begun = c.in_ok-begin_making.ensures.ok clean1 is_open blank in
     let made = c.in_ok-make_tables.ensures.made clean2 begun.is_open (blank_empty s1.now (ap (λ d. d.schema) begun.now ∙ blank)) in
     let stays = c.in_ok-set_version.ensures.write.ok clean3 made.is_open made.empty.schema_is in

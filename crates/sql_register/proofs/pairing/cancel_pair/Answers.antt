@@ -9,10 +9,7 @@ returns-clause-changed g c clean is_open has desk can =
     let s0 = state g.S.Store c.args.conn.now in
     cancel_call s0.now s0 (state g.S.Store c.stand_both.new.conn) c.args.earlier c.args.later desk can c.stand_both.result (c.stand_both.ensures.write.ok clean is_open has) (c.stand_both.ensures.changed clean is_open has desk.standings)
 
-pub returns-in_err-in_order-clause-blame : goal.returns-in_err-in_order-clause-blame
-returns-in_err-in_order-clause-blame g c clean is_open has desk can =
-    let db = (state g.S.Store c.args.conn.now).now in
-    absurd (let ok = c.in_err-in_order.ensures.all (above db desk c.args.earlier can.earlier can.pair.is_earlier) can.two (below db desk c.args.later can.later can.pair.is_later) in let bad = ok in cc)
-
 pub returns-clause-blame : goal.returns-clause-blame
-returns-clause-blame g c clean is_open has desk can = c.stand_both.ensures.blame clean is_open has (cancel_stands (state g.S.Store c.args.conn.now).now desk c.args.earlier c.args.later can)
+returns-clause-blame g c clean is_open has desk can =
+    let db = (state g.S.Store c.args.conn.now).now in
+    c.stand_both.ensures.blame clean is_open has (cancel_stands db desk c.args.earlier c.args.later can) (above db desk c.args.earlier can.earlier can.pair.is_earlier) can.two (below db desk c.args.later can.later can.pair.is_later)

@@ -1,16 +1,20 @@
 use Rattle.std.proofs.Common.{rules, Bool, ◌<◌, ◌^◌, arith, lit<, subst, true}
-use Rattle.std.proofs.lemmas.Result.{err_from_is_err_and}
 use Rattle.sqlite.specs.Held.{state}
 use Rattle.sqlite.specs.State.{HasCleanDisk}
 use Rattle.desk_rules.proofs.ShortNumbers.{short_quantity}
-use Rattle.sql_tables.proofs.CallLemmas.{write_err, write_then, later_then}
+use Rattle.sql_tables.proofs.CallLemmas.{later_then, write_ok, write_then}
 use Rattle.sql_register.specs.Settling.{TakesCash, TakesHeld, AmountsSo, more_held}
-use Rattle.sql_register.proofs.LegLemmas.{legs_settled, pay_fits, put_fits}
+use Rattle.sql_register.proofs.LegLemmas.{legs_settled, legs_short, legs_unpaid, pay_fits, put_fits}
 use Rattle.sql_tables.specs.Ends.{ForCause}
 use Rattle.sql_tables.proofs.ResultLemmas.{on_error}
 use Rattle.sql_register.specs.Content.{content_in}
 use Rattle.sql_register.proofs.CauseLemmas.{caused_error, wrote, wrote_then}
+use Rattle.sql_register.proofs.FailedLemmas.{no_value, write_fell, write_handed}
+use Rattle.sql_register.proofs.ReadLemmas.{was_clean}
 use Rattle.sql_register.proofs.settling.move_legs.Goals as goal
+
+pub take_held-requires-clause-some : goal.take_held-requires-clause-some
+take_held-requires-clause-some g c = c.args.pair.now.later.instruction.some
 
 pub take_held-requires-clause-small : goal.take_held-requires-clause-small
 take_held-requires-clause-small g c =
@@ -33,9 +37,9 @@ returns-clause-changed g c clean is_open has amounts fits =
     let s2 = state g.S.Store c.take_cash.new.conn in
     let s3 = state g.S.Store c.put_held.new.conn in
     let s4 = state g.S.Store c.put_cash.new.conn in
-    let clean3 : HasCleanDisk s3 = omega (arith, clean, c.in_ok-put_cash.ensures.write.later.clean) in
-    let clean2 : HasCleanDisk s2 = omega (arith, clean3, c.in_ok-put_held.ensures.write.later.clean) in
-    let clean1 : HasCleanDisk s1 = omega (arith, clean2, c.in_ok-take_cash.ensures.write.later.clean) in
+    let clean3 : HasCleanDisk s3 = was_clean _ _ c.in_ok-put_cash.ensures.write.later clean in
+    let clean2 : HasCleanDisk s2 = was_clean _ _ c.in_ok-put_held.ensures.write.later clean3 in
+    let clean1 : HasCleanDisk s1 = was_clean _ _ c.in_ok-take_cash.ensures.write.later clean2 in
     let m1 = c.in_ok-take_held.ensures.write.ok clean1 is_open has in
     let m2 = c.in_ok-take_cash.ensures.write.ok clean2 m1.is_open m1.schema in
     let m3 = c.in_ok-put_held.ensures.write.ok clean3 m2.is_open m2.schema in
@@ -51,13 +55,75 @@ returns-clause-changed g c clean is_open has amounts fits =
     let paid = c.in_ok-put_cash.ensures.changed clean m3.is_open m3.schema gives.kept (pay_fits s0.now s1.now s2.now s3.now s4.now earlier later from to c.deliverer-from.ensures c.receiver-to.ensures fits takes pays gives) in
     legs_settled s0.now s1.now s2.now s3.now s4.now earlier later from to c.deliverer-from.ensures c.receiver-to.ensures takes pays gives paid
 
+pub returns-in_err-take_held-clause-changed : goal.returns-in_err-take_held-clause-changed
+returns-in_err-take_held-clause-changed g c clean is_open has amounts fits = no_value c.from_residual.result c.in_err-take_held.field-0.0 c.from_residual.ensures.1 _
+
+pub returns-in_err-take_held-clause-write : goal.returns-in_err-take_held-clause-write
+returns-in_err-take_held-clause-write g c =
+    write_handed c.from_residual.result c.in_err-take_held.field-0.0 c.from_residual.ensures.1 Bool (state g.S.Store c.args.conn.now) (state g.S.Store c.take_held.new.conn) c.in_err-take_held.ensures.write
+
+pub returns-in_err-take_held-clause-blame : goal.returns-in_err-take_held-clause-blame
+returns-in_err-take_held-clause-blame g c clean is_open has amounts fits =
+    on_error c.from_residual.result c.in_err-take_held.field-0.0 (ForCause (state g.S.Store c.args.conn.now) (state g.S.Store c.take_held.new.conn)) c.from_residual.ensures.1
+    (c.in_err-take_held.ensures.blame clean is_open has amounts)
+
+pub returns-then-not-branch-clause-changed : goal.returns-then-not-branch-clause-changed
+returns-then-not-branch-clause-changed g c clean is_open has amounts fits =
+    let s0 = state g.S.Store c.args.conn.now in
+    let s1 = state g.S.Store c.take_held.new.conn in
+    let earlier = c.args.pair.now.earlier in
+    let later = c.args.pair.now.later in
+    let from = c.deliverer-from.result.now in
+    let to = c.receiver-to.result.now in
+    let takes = subst (λ (r : Bool). TakesHeld s0.now s1.now from.instruction.account later.instruction.isin later.instruction.quantity r) c.if-not-branch.true
+    (c.in_ok-take_held.ensures.changed clean is_open has amounts) in
+    legs_short s0.now s1.now s1.now s1.now s1.now earlier later from to c.deliverer-from.ensures c.receiver-to.ensures takes
+
+pub returns-then-not-branch-clause-write : goal.returns-then-not-branch-clause-write
+returns-then-not-branch-clause-write g c = write_ok _ _ (state g.S.Store c.args.conn.now) (state g.S.Store c.take_held.new.conn) c.in_ok-take_held.ensures.write
+
+pub returns-then-not-branch-clause-blame : goal.returns-then-not-branch-clause-blame
+returns-then-not-branch-clause-blame g c clean is_open has amounts fits = tt
+
+pub returns-in_err-take_cash-clause-changed : goal.returns-in_err-take_cash-clause-changed
+returns-in_err-take_cash-clause-changed g c clean is_open has amounts fits = no_value c.from_residual-in_err-take_cash.result c.in_err-take_cash.field-0.0 c.from_residual-in_err-take_cash.ensures.1 _
+
 pub returns-in_err-take_cash-clause-write : goal.returns-in_err-take_cash-clause-write
 returns-in_err-take_cash-clause-write g c =
     let s0 = state g.S.Store c.args.conn.now in
     let s1 = state g.S.Store c.take_held.new.conn in
     let s2 = state g.S.Store c.take_cash.new.conn in
-    let p = err_from_is_err_and c.from_residual-in_err-take_cash.result c.from_residual-in_err-take_cash.ensures.1 in
-    rw (p.1, p.2) (write_then _ _ s0 s1 s2 c.in_ok-take_held.ensures.write (write_err _ s1 s2 c.in_err-take_cash.ensures.write))
+    write_fell c.from_residual-in_err-take_cash.result c.in_err-take_cash.field-0.0 c.from_residual-in_err-take_cash.ensures.1 Bool _ s0 s1 s2 c.in_ok-take_held.ensures.write c.in_err-take_cash.ensures.write
+
+pub returns-then-not-branch-2-clause-changed : goal.returns-then-not-branch-2-clause-changed
+returns-then-not-branch-2-clause-changed g c clean is_open has amounts fits =
+    let s0 = state g.S.Store c.args.conn.now in
+    let s1 = state g.S.Store c.take_held.new.conn in
+    let s2 = state g.S.Store c.take_cash.new.conn in
+    let clean1 : HasCleanDisk s1 = was_clean _ _ c.in_ok-take_cash.ensures.write.later clean in
+    let m1 = c.in_ok-take_held.ensures.write.ok clean1 is_open has in
+    let earlier = c.args.pair.now.earlier in
+    let later = c.args.pair.now.later in
+    let from = c.deliverer-from.result.now in
+    let to = c.receiver-to.result.now in
+    let takes = subst (λ (r : Bool). TakesHeld s0.now s1.now from.instruction.account later.instruction.isin later.instruction.quantity r) c.if-not-branch.false
+    (c.in_ok-take_held.ensures.changed clean1 is_open has amounts) in
+    let lacks = subst (λ (r : Bool). TakesCash s1.now s2.now to.sender later.instruction.cash r) c.if-not-branch-2.true
+    (c.in_ok-take_cash.ensures.changed clean m1.is_open m1.schema takes.1.kept) in
+    legs_unpaid s0.now s1.now s2.now s2.now s2.now earlier later from to c.deliverer-from.ensures c.receiver-to.ensures takes lacks
+
+pub returns-then-not-branch-2-clause-write : goal.returns-then-not-branch-2-clause-write
+returns-then-not-branch-2-clause-write g c =
+    let s0 = state g.S.Store c.args.conn.now in
+    let s1 = state g.S.Store c.take_held.new.conn in
+    let s2 = state g.S.Store c.take_cash.new.conn in
+    write_ok _ _ s0 s2 (write_then _ _ s0 s1 s2 c.in_ok-take_held.ensures.write c.in_ok-take_cash.ensures.write)
+
+pub returns-then-not-branch-2-clause-blame : goal.returns-then-not-branch-2-clause-blame
+returns-then-not-branch-2-clause-blame g c clean is_open has amounts fits = tt
+
+pub returns-in_err-put_held-clause-changed : goal.returns-in_err-put_held-clause-changed
+returns-in_err-put_held-clause-changed g c clean is_open has amounts fits = no_value c.from_residual-in_err-put_held.result c.in_err-put_held.field-0.0 c.from_residual-in_err-put_held.ensures.1 _
 
 pub returns-in_err-put_held-clause-write : goal.returns-in_err-put_held-clause-write
 returns-in_err-put_held-clause-write g c =
@@ -65,9 +131,11 @@ returns-in_err-put_held-clause-write g c =
     let s1 = state g.S.Store c.take_held.new.conn in
     let s2 = state g.S.Store c.take_cash.new.conn in
     let s3 = state g.S.Store c.put_held.new.conn in
-    let p = err_from_is_err_and c.from_residual-in_err-put_held.result c.from_residual-in_err-put_held.ensures.1 in
     let taken = write_then _ _ s0 s1 s2 c.in_ok-take_held.ensures.write c.in_ok-take_cash.ensures.write in
-    rw (p.1, p.2) (write_then _ _ s0 s2 s3 taken (write_err _ s2 s3 c.in_err-put_held.ensures.write))
+    write_fell c.from_residual-in_err-put_held.result c.in_err-put_held.field-0.0 c.from_residual-in_err-put_held.ensures.1 (Unit {0}) _ s0 s2 s3 taken c.in_err-put_held.ensures.write
+
+pub returns-in_err-put_cash-clause-changed : goal.returns-in_err-put_cash-clause-changed
+returns-in_err-put_cash-clause-changed g c clean is_open has amounts fits = no_value c.from_residual-in_err-put_cash.result c.in_err-put_cash.field-0.0 c.from_residual-in_err-put_cash.ensures.1 _
 
 pub returns-in_err-put_cash-clause-write : goal.returns-in_err-put_cash-clause-write
 returns-in_err-put_cash-clause-write g c =
@@ -76,10 +144,23 @@ returns-in_err-put_cash-clause-write g c =
     let s2 = state g.S.Store c.take_cash.new.conn in
     let s3 = state g.S.Store c.put_held.new.conn in
     let s4 = state g.S.Store c.put_cash.new.conn in
-    let p = err_from_is_err_and c.from_residual-in_err-put_cash.result c.from_residual-in_err-put_cash.ensures.1 in
     let taken = write_then _ _ s0 s1 s2 c.in_ok-take_held.ensures.write c.in_ok-take_cash.ensures.write in
     let held = write_then _ _ s0 s2 s3 taken c.in_ok-put_held.ensures.write in
-    rw (p.1, p.2) (write_then _ _ s0 s3 s4 held (write_err _ s3 s4 c.in_err-put_cash.ensures.write))
+    write_fell c.from_residual-in_err-put_cash.result c.in_err-put_cash.field-0.0 c.from_residual-in_err-put_cash.ensures.1 (Unit {0}) _ s0 s3 s4 held c.in_err-put_cash.ensures.write
+
+pub returns-clause-write : goal.returns-clause-write
+returns-clause-write g c =
+    let s0 = state g.S.Store c.args.conn.now in
+    let s1 = state g.S.Store c.take_held.new.conn in
+    let s2 = state g.S.Store c.take_cash.new.conn in
+    let s3 = state g.S.Store c.put_held.new.conn in
+    let s4 = state g.S.Store c.put_cash.new.conn in
+    let taken = write_then _ _ s0 s1 s2 c.in_ok-take_held.ensures.write c.in_ok-take_cash.ensures.write in
+    let held = write_then _ _ s0 s2 s3 taken c.in_ok-put_held.ensures.write in
+    write_ok _ _ s0 s4 (write_then _ _ s0 s3 s4 held c.in_ok-put_cash.ensures.write)
+
+pub returns-clause-blame : goal.returns-clause-blame
+returns-clause-blame g c clean is_open has amounts fits = tt
 
 pub returns-in_err-take_cash-clause-blame : goal.returns-in_err-take_cash-clause-blame
 returns-in_err-take_cash-clause-blame g c clean is_open has amounts fits =

@@ -1,4 +1,4 @@
-use Rattle.std.proofs.Common.{Ok, ◌≡◌, ◌∙◌, ap, arith, refl, subst, sym, Some}
+use Rattle.std.proofs.Common.{Ok, ◌≡◌, ◌∙◌, ap, refl, subst, sym, Some}
 use Rattle.sqlite.specs.Effect.{Database}
 use Rattle.sqlite.specs.Held.{state}
 use Rattle.sqlite.specs.State.{HasCleanDisk}
@@ -14,6 +14,7 @@ use Rattle.sql_tables.proofs.ResultLemmas.{on_error}
 use Rattle.sql_register.proofs.CauseLemmas.{caused_error, looked, looked_then}
 use Rattle.sql_register.proofs.FailedLemmas.{look_only, no_value}
 use Rattle.sql_register.proofs.WalkLemmas.{look_handed}
+use Rattle.sql_register.proofs.ReadLemmas.{was_clean}
 use Rattle.sql_register.proofs.settling.pair_at.Goals as goal
 
 pub returns-clause-value : goal.returns-clause-value
@@ -21,8 +22,8 @@ returns-clause-value g c clean is_open has desk =
     let s0 = state g.S.Store c.args.conn.now in
     let s1 = state g.S.Store c.instruction.new.conn in
     let s2 = state g.S.Store c.mate_of.new.conn in
-    let clean2 : HasCleanDisk s2 = omega (arith, clean, c.in_ok-earlier.ensures.look.later.clean) in
-    let clean1 : HasCleanDisk s1 = omega (arith, clean2, c.in_ok-mate.ensures.look.later.clean) in
+    let clean2 : HasCleanDisk s2 = was_clean _ _ c.in_ok-earlier.ensures.look.later clean in
+    let clean1 : HasCleanDisk s1 = was_clean _ _ c.in_ok-mate.ensures.look.later clean2 in
     let same1 = c.in_ok-later.ensures.look.ok clean1 is_open has in
     let has1 : s1.now.schema ≡ desk_schema = ap (λ d. d.schema) same1.now ∙ has in
     let desk1 : IsDesk s1.now = subst IsDesk (sym same1.now) desk in
@@ -69,8 +70,8 @@ returns-in_err-earlier-clause-blame g c clean is_open has desk mate earlier late
     let s2 = state g.S.Store c.mate_of.new.conn in
     let s3 = state g.S.Store c.instruction-2.new.conn in
     let e = c.in_err-earlier.field-0.0 in
-    let clean2 : HasCleanDisk s2 = omega (arith, clean, c.in_err-earlier.ensures.look.later.clean) in
-    let clean1 : HasCleanDisk s1 = omega (arith, clean2, c.in_ok-mate.ensures.look.later.clean) in
+    let clean2 : HasCleanDisk s2 = was_clean _ _ c.in_err-earlier.ensures.look.later clean in
+    let clean1 : HasCleanDisk s1 = was_clean _ _ c.in_ok-mate.ensures.look.later clean2 in
     let same1 = c.in_ok-later.ensures.look.ok clean1 is_open has in
     let has1 : s1.now.schema ≡ desk_schema = ap (λ (d : Database). d.schema) same1.now ∙ has in
     let desk1 : IsDesk s1.now = subst IsDesk (sym same1.now) desk in

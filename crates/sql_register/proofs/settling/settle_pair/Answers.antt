@@ -1,4 +1,4 @@
-use Rattle.std.proofs.Common.{◌≡◌, ◌∙◌, sym, ap, subst, arith, ℕ, IfOk}
+use Rattle.std.proofs.Common.{◌≡◌, ◌∙◌, sym, ap, subst, ℕ, IfOk}
 use Rattle.sqlite.specs.Effect.{Database}
 use Rattle.sqlite.specs.Held.{state}
 use Rattle.sqlite.specs.State.{HasCleanDisk}
@@ -10,6 +10,7 @@ use Rattle.sql_register.proofs.WithinLemmas.{look_trial}
 use Rattle.sql_tables.specs.Ends.{ForCause, IfSound, IsSame}
 use Rattle.sql_tables.proofs.ResultLemmas.{on_error}
 use Rattle.sql_register.proofs.CauseLemmas.{IsReady, caused_from}
+use Rattle.sql_register.proofs.ReadLemmas.{was_clean}
 use Rattle.sql_register.proofs.settling.settle_pair.Goals as goal
 
 pub returns-clause-trial : goal.returns-clause-trial
@@ -21,7 +22,7 @@ returns-clause-changed g c clean is_open has desk day can inside none =
     let s0 = state g.S.Store c.args.conn.now in
     let s1 = state g.S.Store c.pair_at.new.conn in
     let s2 = state g.S.Store c.settle_found.new.conn in
-    let clean1 : HasCleanDisk s1 = omega (arith, clean, c.settle_found.ensures.trial.later.clean) in
+    let clean1 : HasCleanDisk s1 = was_clean _ _ c.settle_found.ensures.trial.later clean in
     let same = c.in_ok-pair.ensures.look.ok clean1 is_open has in
     let found = c.in_ok-pair.ensures.value clean1 is_open has desk in
     let p = c.in_ok-pair.pair in
@@ -46,7 +47,7 @@ returns-clause-blame g c clean is_open has desk day can inside none =
     let s0 = state g.S.Store c.args.conn.now in
     let s1 = state g.S.Store c.pair_at.new.conn in
     let s2 = state g.S.Store c.settle_found.new.conn in
-    let clean1 : HasCleanDisk s1 = omega (arith, clean, c.settle_found.ensures.trial.later.clean) in
+    let clean1 : HasCleanDisk s1 = was_clean _ _ c.settle_found.ensures.trial.later clean in
     let found = c.in_ok-pair.ensures.value clean1 is_open has desk in
     let p = c.in_ok-pair.pair in
     let content = content_in s0.now in

@@ -1,9 +1,10 @@
-use Rattle.std.proofs.Common.{◌≡◌, ◌∙◌, ap, arith}
+use Rattle.std.proofs.Common.{◌≡◌, ◌∙◌, ap}
 use Rattle.sqlite.specs.Effect.{Database}
 use Rattle.sqlite.specs.Held.{state}
 use Rattle.sqlite.specs.State.{HasCleanDisk}
 use Rattle.sql_tables.specs.Schema.{desk_schema}
 use Rattle.sql_register.proofs.CauseLemmas.{caused_from}
+use Rattle.sql_register.proofs.ReadLemmas.{was_clean}
 use Rattle.sql_register.proofs.undoing.take_back.Goals as goal
 
 pub returns-clause-blame : goal.returns-clause-blame
@@ -11,8 +12,8 @@ returns-clause-blame g c clean is_open has still =
     let s0 = state g.S.Store c.args.conn.now in
     let s1 = state g.S.Store c.roll_back.new.conn in
     let s2 = state g.S.Store c.probe-2.new.conn in
-    let clean1 : HasCleanDisk s1 = omega (arith, clean, c.probe-2.ensures.look.later.clean) in
-    let clean0 : HasCleanDisk s0 = omega (arith, clean1, c.in_ok-roll_back.ensures.later.clean) in
+    let clean1 : HasCleanDisk s1 = was_clean _ _ c.probe-2.ensures.look.later clean in
+    let clean0 : HasCleanDisk s0 = was_clean _ _ c.in_ok-roll_back.ensures.later clean1 in
     let open1 = c.probe-2.ensures.look.opened clean still in
     let undone = c.in_ok-roll_back.ensures.ok clean1 is_open has in
     let has1 : s1.now.schema ≡ desk_schema = ap (λ (d : Database). d.schema) (undone.now open1) ∙ c.requires.committed clean0 is_open in

@@ -1,4 +1,4 @@
-use Rattle.std.proofs.Common.{◌≡◌, ◌∙◌, ap, arith, subst}
+use Rattle.std.proofs.Common.{◌≡◌, ◌∙◌, ap, subst, ℕ, ◌<◌, Option, IfSome}
 use Rattle.sqlite.specs.Held.{state}
 use Rattle.sqlite.specs.State.{HasCleanDisk}
 use Rattle.desk_rules.specs.Content.{history_of}
@@ -11,6 +11,9 @@ use Rattle.sql_tables.proofs.ResultLemmas.{on_error}
 use Rattle.sql_register.specs.Content.{content_in}
 use Rattle.sql_register.specs.Walking.{is_unmatched}
 use Rattle.sql_register.proofs.WalkLemmas.{fails_then, look_handed, shown_then}
+use Rattle.sql_register.proofs.FailedLemmas.{look_only, no_value}
+use Rattle.sql_tables.proofs.LookLemmas.{look_ok, look_then}
+use Rattle.sql_register.proofs.ReadLemmas.{was_clean}
 use Rattle.sql_register.proofs.walking.candidate_above.Goals as goal
 
 pub returns-clause-value : goal.returns-clause-value
@@ -21,7 +24,7 @@ returns-clause-value g c clean is_open has desk =
     let i : Instructed = record { sender = c.args.sender; instruction = c.args.instruction.now } in
     let number = c.in-Some.number in
     let looked = c.in_ok-standing.ensures.look in
-    let clean1 : HasCleanDisk s1 = omega (arith, clean, looked.later.clean) in
+    let clean1 : HasCleanDisk s1 = was_clean _ _ looked.later clean in
     let stands = shown_then _ s0 s1 s2 c.in_ok-number.ensures.look (λ d. c.in_ok-standing.standing ≡ standing_in d number) looked.later
     (λ clean2 open1 has1 desk1. c.in_ok-standing.ensures.value clean2 open1 has1 desk1.standings) clean is_open has desk in (
       subst (IsNextOpposite (history_of (content_in s0.now)) i c.args.after) c.in-Some.is (c.in_ok-number.ensures.value clean1 is_open has desk),
@@ -48,3 +51,52 @@ pub returns-in_err-standing-clause-look : goal.returns-in_err-standing-clause-lo
 returns-in_err-standing-clause-look g c =
     look_handed _ (state g.S.Store c.args.conn.now) (state g.S.Store c.opposite_above.new.conn) (state g.S.Store c.standing.new.conn) c.in_ok-number.ensures.look c.from_residual-in_err-standing.result c.in_err-standing.field-0.0
     c.from_residual-in_err-standing.ensures.1 c.in_err-standing.ensures.look
+
+pub returns-in_err-number-clause-value : goal.returns-in_err-number-clause-value
+returns-in_err-number-clause-value g c clean is_open has desk = no_value c.from_residual.result c.in_err-number.field-0.0 c.from_residual.ensures.1 _
+
+pub returns-in_err-number-clause-rising : goal.returns-in_err-number-clause-rising
+returns-in_err-number-clause-rising g c = no_value c.from_residual.result c.in_err-number.field-0.0 c.from_residual.ensures.1 _
+
+pub returns-in_err-number-clause-small : goal.returns-in_err-number-clause-small
+returns-in_err-number-clause-small g c = no_value c.from_residual.result c.in_err-number.field-0.0 c.from_residual.ensures.1 _
+
+pub returns-in_err-number-clause-look : goal.returns-in_err-number-clause-look
+returns-in_err-number-clause-look g c = look_only c.from_residual.result c.in_err-number.field-0.0 c.from_residual.ensures.1 (Option ℕ) (state g.S.Store c.args.conn.now) (state g.S.Store c.opposite_above.new.conn) c.in_err-number.ensures.look
+
+pub returns-in_err-number-clause-blame : goal.returns-in_err-number-clause-blame
+returns-in_err-number-clause-blame g c clean is_open has desk =
+    on_error c.from_residual.result c.in_err-number.field-0.0 (ForCause (state g.S.Store c.args.conn.now) (state g.S.Store c.opposite_above.new.conn)) c.from_residual.ensures.1 (c.in_err-number.ensures.blame clean is_open has desk)
+
+pub returns-in_default-clause-rising : goal.returns-in_default-clause-rising
+returns-in_default-clause-rising g c = tt
+
+pub returns-in_default-clause-small : goal.returns-in_default-clause-small
+returns-in_default-clause-small g c = tt
+
+pub returns-in_default-clause-look : goal.returns-in_default-clause-look
+returns-in_default-clause-look g c = look_ok _ _ (state g.S.Store c.args.conn.now) (state g.S.Store c.opposite_above.new.conn) c.in_ok-number.ensures.look
+
+pub returns-in_default-clause-blame : goal.returns-in_default-clause-blame
+returns-in_default-clause-blame g c clean is_open has desk = tt
+
+pub returns-in_err-standing-clause-value : goal.returns-in_err-standing-clause-value
+returns-in_err-standing-clause-value g c clean is_open has desk = no_value c.from_residual-in_err-standing.result c.in_err-standing.field-0.0 c.from_residual-in_err-standing.ensures.1 _
+
+pub returns-in_err-standing-clause-rising : goal.returns-in_err-standing-clause-rising
+returns-in_err-standing-clause-rising g c = no_value c.from_residual-in_err-standing.result c.in_err-standing.field-0.0 c.from_residual-in_err-standing.ensures.1 _
+
+pub returns-in_err-standing-clause-small : goal.returns-in_err-standing-clause-small
+returns-in_err-standing-clause-small g c = no_value c.from_residual-in_err-standing.result c.in_err-standing.field-0.0 c.from_residual-in_err-standing.ensures.1 _
+
+pub returns-clause-rising : goal.returns-clause-rising
+returns-clause-rising g c = subst (λ o. IfSome o (λ n. c.args.after < n)) c.in-Some.is c.in_ok-number.ensures.rising
+
+pub returns-clause-small : goal.returns-clause-small
+returns-clause-small g c = subst (λ o. IfSome o (λ n. n < 1_000_000_000)) c.in-Some.is c.in_ok-number.ensures.small
+
+pub returns-clause-look : goal.returns-clause-look
+returns-clause-look g c = look_ok _ _ (state g.S.Store c.args.conn.now) (state g.S.Store c.standing.new.conn) (look_then _ _ (state g.S.Store c.args.conn.now) (state g.S.Store c.opposite_above.new.conn) (state g.S.Store c.standing.new.conn) c.in_ok-number.ensures.look c.in_ok-standing.ensures.look)
+
+pub returns-clause-blame : goal.returns-clause-blame
+returns-clause-blame g c clean is_open has desk = tt

@@ -9,6 +9,7 @@ use Rattle.sql_tables.proofs.ResultLemmas.{on_error}
 use Rattle.sql_register.specs.Content.{content_in}
 use Rattle.sql_register.specs.Walking.{IsPairAbove}
 use Rattle.sql_register.proofs.WalkLemmas.{fails_then, first_all, first_more, look_handed, none_due, shown_then, IsFirstUpTo}
+use Rattle.sql_register.proofs.ReadLemmas.{was_clean}
 use Rattle.sql_register.proofs.walking.due_pair_after.Goals as goal
 
 pub loop-number-init : goal.loop-number-init
@@ -50,7 +51,7 @@ loop-number-preserved g c =
       look = look_more _ s0 s1 s2 c.loop-number.invariant.look looked;
       small = subst (λ o. IfSome o (λ found. found.0 < 1_000_000_000)) c.in-Some.is c.in_ok-number.ensures.small;
       sooner = λ clean is_open has desk.
-          let clean1 : HasCleanDisk s1 = omega (arith, clean, looked.later.clean) in
+          let clean1 : HasCleanDisk s1 = was_clean _ _ looked.later clean in
           let next = shown_then tt s0 s1 s2 c.loop-number.invariant.look (λ (d : Database). IsPairAbove d day c.args.place c.loop-number.after c.in_ok-number.field-0) looked.later c.in_ok-number.ensures.value clean is_open has desk in
           let met = subst (IsPairAbove s0.now day c.args.place c.loop-number.after) c.in-Some.is next in
           subst (IsFirstUpTo (content_in s0.now) day c.args.place c.in-Some.number) (sym c.sooner-first.ensures)
@@ -65,7 +66,7 @@ returns-clause-value g c clean is_open has desk =
     let s2 = state g.S.Store c.pair_above.new.conn in
     let day = number_of c.args.day in
     let looked = c.in_ok-number.ensures.look in
-    let clean1 : HasCleanDisk s1 = omega (arith, clean, looked.later.clean) in
+    let clean1 : HasCleanDisk s1 = was_clean _ _ looked.later clean in
     let next = shown_then tt s0 s1 s2 c.loop-number.invariant.look (λ (d : Database). IsPairAbove d day c.args.place c.loop-number.after c.in_ok-number.field-0) looked.later c.in_ok-number.ensures.value clean is_open has desk in
     let none = subst (IsPairAbove s0.now day c.args.place c.loop-number.after) c.in_default.is next in
     first_all (content_in s0.now) day c.args.place c.loop-number.after (λ m reason matched past. none m (record { reason = reason; matched = matched; above = past })) c.loop-number.first (c.loop-number.invariant.sooner clean1 is_open has desk)

@@ -9,6 +9,7 @@ use Rattle.sql_tables.proofs.ResultLemmas.{on_error}
 use Rattle.sql_register.specs.Content.{content_in}
 use Rattle.sql_register.specs.Walking.{IsCandidateAbove}
 use Rattle.sql_register.proofs.WalkLemmas.{fails_then, first_found, look_handed, none_found, none_passed, passed_more, shown_then, unmatched_is, unmatched_not}
+use Rattle.sql_register.proofs.ReadLemmas.{was_clean}
 use Rattle.sql_register.proofs.walking.first_opposite.Goals as goal
 
 pub loop-number-init : goal.loop-number-init
@@ -41,7 +42,7 @@ returns-then-unmatched-clause-value g c clean is_open has desk =
     let s2 = state g.S.Store c.candidate_above.new.conn in
     let i : Instructed = record { sender = c.args.sender; instruction = c.args.instruction.now } in
     let looked = c.in_ok-number.ensures.look in
-    let clean1 : HasCleanDisk s1 = omega (arith, clean, looked.later.clean) in
+    let clean1 : HasCleanDisk s1 = was_clean _ _ looked.later clean in
     let next = shown_then tt s0 s1 s2 c.loop-number.invariant.look (λ (d : Database). IsCandidateAbove (content_in d) i c.loop-number.after c.in_ok-number.field-0) looked.later c.in_ok-number.ensures.value clean is_open has desk in
     let found = subst (IsCandidateAbove (content_in s0.now) i c.loop-number.after) c.in-Some.is next in
     first_found (content_in s0.now) i c.loop-number.after c.in-Some.number (c.loop-number.invariant.passed clean1 is_open has desk) found.0 (unmatched_is _ (sym found.1 ∙ c.if-unmatched.true))
@@ -70,7 +71,7 @@ loop-number-preserved g c =
       look = look_more _ s0 s1 s2 c.loop-number.invariant.look looked;
       small = subst (λ o. IfSome o (λ found. found.0 < 1_000_000_000)) c.in-Some.is c.in_ok-number.ensures.small;
       passed = λ clean is_open has desk.
-          let clean1 : HasCleanDisk s1 = omega (arith, clean, looked.later.clean) in
+          let clean1 : HasCleanDisk s1 = was_clean _ _ looked.later clean in
           let next = shown_then tt s0 s1 s2 c.loop-number.invariant.look (λ (d : Database). IsCandidateAbove (content_in d) i c.loop-number.after c.in_ok-number.field-0) looked.later c.in_ok-number.ensures.value clean is_open has desk in
           let found = subst (IsCandidateAbove (content_in s0.now) i c.loop-number.after) c.in-Some.is next in
           passed_more (content_in s0.now) i c.loop-number.after c.in-Some.number (c.loop-number.invariant.passed clean1 is_open has desk) found.0 (unmatched_not _ (sym found.1 ∙ c.if-unmatched.false));
@@ -83,7 +84,7 @@ returns-clause-value g c clean is_open has desk =
     let s2 = state g.S.Store c.candidate_above.new.conn in
     let i : Instructed = record { sender = c.args.sender; instruction = c.args.instruction.now } in
     let looked = c.in_ok-number.ensures.look in
-    let clean1 : HasCleanDisk s1 = omega (arith, clean, looked.later.clean) in
+    let clean1 : HasCleanDisk s1 = was_clean _ _ looked.later clean in
     let next = shown_then tt s0 s1 s2 c.loop-number.invariant.look (λ (d : Database). IsCandidateAbove (content_in d) i c.loop-number.after c.in_ok-number.field-0) looked.later c.in_ok-number.ensures.value clean is_open has desk in
     none_found (content_in s0.now) i c.loop-number.after (c.loop-number.invariant.passed clean1 is_open has desk) (subst (IsCandidateAbove (content_in s0.now) i c.loop-number.after) c.in_default.is next)
 

@@ -3,6 +3,8 @@ use Rattle.sql_rows.specs.Standings.{IsNextMatched}
 use Rattle.sql_tables.specs.Ends.{ForCause}
 use Rattle.sql_tables.proofs.ResultLemmas.{no_error, on_error}
 use Rattle.sql_register.proofs.WalkLemmas.{matched_within, on_same}
+use Rattle.std.proofs.Common.{ℕ, Option}
+use Rattle.sql_register.proofs.FailedLemmas.{look_only, no_value}
 use Rattle.sql_register.proofs.walking.matched_above.Goals as goal
 
 pub returns-in_err-found-clause-blame : goal.returns-in_err-found-clause-blame
@@ -20,3 +22,21 @@ returns-clause-blame g c clean is_open has desk =
     let s0 = state g.S.Store c.args.conn.now in
     no_error c.above.result (ForCause s0 (state g.S.Store c.next_matched.new.conn))
     (c.above.ensures.all (matched_within s0.now desk c.args.after c.in_ok-found.found (c.in_ok-found.ensures.value clean is_open has desk.standings)))
+
+pub returns-in_err-found-clause-value : goal.returns-in_err-found-clause-value
+returns-in_err-found-clause-value g c clean is_open has desk = no_value c.from_residual.result c.in_err-found.field-0.0 c.from_residual.ensures.1 _
+
+pub returns-in_err-found-clause-rising : goal.returns-in_err-found-clause-rising
+returns-in_err-found-clause-rising g c = no_value c.from_residual.result c.in_err-found.field-0.0 c.from_residual.ensures.1 _
+
+pub returns-in_err-found-clause-small : goal.returns-in_err-found-clause-small
+returns-in_err-found-clause-small g c = no_value c.from_residual.result c.in_err-found.field-0.0 c.from_residual.ensures.1 _
+
+pub returns-in_err-found-clause-look : goal.returns-in_err-found-clause-look
+returns-in_err-found-clause-look g c = look_only c.from_residual.result c.in_err-found.field-0.0 c.from_residual.ensures.1 (Option ℕ) (state g.S.Store c.args.conn.now) (state g.S.Store c.next_matched.new.conn) c.in_err-found.ensures.look
+
+pub returns-clause-rising : goal.returns-clause-rising
+returns-clause-rising g c = c.above.ensures.rising
+
+pub returns-clause-small : goal.returns-clause-small
+returns-clause-small g c = c.above.ensures.small

@@ -1,9 +1,13 @@
-use Rattle.std.proofs.Common.{subst}
+use Rattle.std.proofs.Common.{subst, ◌≢◌, IfOk, IsTrue}
 use Rattle.sqlite.specs.Held.{state}
 use Rattle.desk_register.specs.View.{IsRead}
 use Rattle.sql_register.specs.Kept.{Kept, shown}
 use Rattle.sql_register.proofs.KeptLemmas.{holds_told}
-use Rattle.sql_register.proofs.ReadLemmas.{read_told}
+use Rattle.sql_register.proofs.ReadLemmas.{read_told, value_told}
+use Rattle.sqlite.specs.State.{HasCleanDisk}
+use Rattle.desk_register.specs.declared.register.Stage.TheVariants.{Failed}
+use Rattle.sql_register.specs.Content.{content_in}
+use Rattle.desk_register.specs.Looked.{IsFirstOpposite}
 use Rattle.sql_register.proofs.calls.SqlRegisterRegister.first_opposite.Goals as goal
 
 pub returns-clause-read : goal.returns-clause-read
@@ -16,3 +20,10 @@ pub invariant_of-self : goal.invariant_of-self
 invariant_of-self g c =
     holds_told (state g.S.Store c.self.inside.conn) (state g.S.Store c.first_opposite.new.conn) c.self.inside.stage c.told.new.stage c.self.inside.limit
     c.first_opposite.result c.told.result c.self.invariant c.first_opposite.ensures.look c.told.ensures
+
+pub returns-clause-value : goal.returns-clause-value
+returns-clause-value g c =
+    subst (λ (k : Kept _). HasCleanDisk (state g.S.Store c.first_opposite.new.conn) → IsTrue (state g.S.Store k.connection).is_open → k.stage ≢ Failed → IfOk c.told.result (IsFirstOpposite (content_in (state g.S.Store k.connection).now) (record { sender = c.args.sender; instruction = c.args.instruction.now }))) c.self.view_is
+    (λ clean is_open goes. value_told (state g.S.Store c.self.inside.conn) (state g.S.Store c.first_opposite.new.conn) c.self.inside.stage c.told.new.stage c.self.inside.limit
+    (IsFirstOpposite (content_in (state g.S.Store c.self.inside.conn).now) (record { sender = c.args.sender; instruction = c.args.instruction.now })) c.first_opposite.result c.told.result c.self.invariant.0 c.first_opposite.ensures.look.later
+    (c.first_opposite.ensures.value) c.told.ensures clean is_open goes)

@@ -1,9 +1,13 @@
-use Rattle.std.proofs.Common.{subst}
+use Rattle.std.proofs.Common.{subst, ◌≢◌, IfOk, IsTrue}
 use Rattle.sqlite.specs.Held.{state}
 use Rattle.desk_register.specs.View.{IsRead}
 use Rattle.sql_register.specs.Kept.{Kept, shown}
 use Rattle.sql_register.proofs.KeptLemmas.{holds_told}
-use Rattle.sql_register.proofs.ReadLemmas.{read_told}
+use Rattle.sql_register.proofs.ReadLemmas.{read_told, value_told}
+use Rattle.sqlite.specs.State.{HasCleanDisk}
+use Rattle.desk_register.specs.declared.register.Stage.TheVariants.{Failed}
+use Rattle.sql_register.specs.Content.{content_in}
+use Rattle.desk_register.specs.Looked.{IsHoldingAfter}
 use Rattle.sql_register.proofs.calls.SqlRegisterRegister.holding_after.Goals as goal
 
 pub returns-clause-read : goal.returns-clause-read
@@ -16,3 +20,10 @@ pub invariant_of-self : goal.invariant_of-self
 invariant_of-self g c =
     holds_told (state g.S.Store c.self.inside.conn) (state g.S.Store c.holding_after.new.conn) c.self.inside.stage c.told.new.stage c.self.inside.limit
     c.holding_after.result c.told.result c.self.invariant c.holding_after.ensures.look c.told.ensures
+
+pub returns-clause-value : goal.returns-clause-value
+returns-clause-value g c =
+    subst (λ (k : Kept _). HasCleanDisk (state g.S.Store c.holding_after.new.conn) → IsTrue (state g.S.Store k.connection).is_open → k.stage ≢ Failed → IfOk c.told.result (IsHoldingAfter (content_in (state g.S.Store k.connection).now) c.args.account c.args.isin)) c.self.view_is
+    (λ clean is_open goes. value_told (state g.S.Store c.self.inside.conn) (state g.S.Store c.holding_after.new.conn) c.self.inside.stage c.told.new.stage c.self.inside.limit
+    (IsHoldingAfter (content_in (state g.S.Store c.self.inside.conn).now) c.args.account c.args.isin) c.holding_after.result c.told.result c.self.invariant.0 c.holding_after.ensures.look.later
+    (c.holding_after.ensures.value) c.told.ensures clean is_open goes)

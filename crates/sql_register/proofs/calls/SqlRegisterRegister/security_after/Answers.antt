@@ -1,10 +1,14 @@
-use Rattle.std.proofs.Common.{subst}
+use Rattle.std.proofs.Common.{subst, ◌≢◌, IfOk, IsTrue}
 use Rattle.sqlite.specs.Held.{state}
 use Rattle.desk_register.specs.View.{IsRead}
 use Rattle.sql_register.specs.Content.{content_in}
 use Rattle.sql_register.specs.Kept.{Kept, shown}
 use Rattle.sql_register.proofs.KeptLemmas.{holds_told}
-use Rattle.sql_register.proofs.ReadLemmas.{read_told}
+use Rattle.sql_register.proofs.ReadLemmas.{read_told, value_told}
+use Rattle.sqlite.specs.State.{HasCleanDisk}
+use Rattle.desk_register.specs.declared.register.Stage.TheVariants.{Failed}
+use Rattle.desk_rules.specs.Content.{history_of}
+use Rattle.desk_register.specs.Looked.{IsSecurityAfter}
 use Rattle.sql_register.proofs.calls.SqlRegisterRegister.security_after.Goals as goal
 
 pub returns-clause-read : goal.returns-clause-read
@@ -17,3 +21,10 @@ pub invariant_of-self : goal.invariant_of-self
 invariant_of-self g c =
     holds_told (state g.S.Store c.self.inside.conn) (state g.S.Store c.security_after.new.conn) c.self.inside.stage c.told.new.stage c.self.inside.limit
     c.security_after.result c.told.result c.self.invariant c.security_after.ensures.look c.told.ensures
+
+pub returns-clause-value : goal.returns-clause-value
+returns-clause-value g c =
+    subst (λ (k : Kept _). HasCleanDisk (state g.S.Store c.security_after.new.conn) → IsTrue (state g.S.Store k.connection).is_open → k.stage ≢ Failed → IfOk c.told.result (IsSecurityAfter (history_of (content_in (state g.S.Store k.connection).now)) c.args.isin)) c.self.view_is
+    (λ clean is_open goes. value_told (state g.S.Store c.self.inside.conn) (state g.S.Store c.security_after.new.conn) c.self.inside.stage c.told.new.stage c.self.inside.limit
+    (IsSecurityAfter (history_of (content_in (state g.S.Store c.self.inside.conn).now)) c.args.isin) c.security_after.result c.told.result c.self.invariant.0 c.security_after.ensures.look.later
+    (λ clean is_open has desk. c.security_after.ensures.value clean is_open has (content_in (state g.S.Store c.self.inside.conn).now).register desk.entries) c.told.ensures clean is_open goes)
