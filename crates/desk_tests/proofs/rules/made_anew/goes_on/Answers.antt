@@ -1,4 +1,4 @@
-use Rattle.std.proofs.Common.{◌≡◌, sym, subst}
+use Rattle.std.proofs.Common.{sym, subst}
 use Rattle.std.specs.Prelude.{OnOk}
 use Rattle.desk_engine.specs.Applied.{Keeps}
 use Rattle.desk_engine.specs.Rebuilt.{HoldsEntries}
