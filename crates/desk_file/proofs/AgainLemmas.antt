@@ -1,6 +1,6 @@
--- What is opened of files that hold a database of these books.
-use Rattle.std.proofs.Common.{◌≡◌, inl, inr, List, [], ◌∷◌, filter, sym, ap, ◌∙◌, subst}
-use Rattle.std.proofs.Math.Logic.{∥∥₁_elim}
+-- What is opened of files that hold a database of these books, and that it is.
+use Rattle.std.proofs.Common.{◌≡◌, ◌≤◌, ℕ, inl, inr, List, [], ◌∷◌, filter, length, Some, refl, sym, ap, ◌∙◌, subst}
+use Rattle.std.proofs.Math.Logic.{∥∥₁_elim, ∥∥₁_map}
 use Rattle.std.specs.List.{AllZip}
 use Rattle.sqlite.specs.Closing.{HoldsAlone}
 use Rattle.sqlite.specs.Effect.{Database}
@@ -11,12 +11,16 @@ use Rattle.sqlite_trees.specs.Tree.{Trees}
 use Rattle.sqlite_wal.specs.Recovery.{Image}
 use Rattle.desk_rules.specs.Books.{Books}
 use Rattle.desk_rules.specs.Content.{Content}
+use Rattle.desk_rules.specs.WellFormed.{AreWellFormed}
 use Rattle.desk_rules.specs.declared.limits.TheConstants.{MOST_ENTRIES}
 use Rattle.desk_engine.specs.Ready.{KeepsFormed}
 use Rattle.sql_register.specs.Content.{content_in}
 use Rattle.sql_tables.specs.Schema.{desk_schema, no_schema}
+use Rattle.sql_tables.specs.Version.{HasVersion}
+use Rattle.desk_file.specs.Desks.{IsDesks, IsDesksIn}
 use Rattle.desk_file.specs.Opened.{FindsIn}
 use Rattle.desk_file.specs.Said.{SaysBooks}
+use Rattle.desk_file.proofs.LimitLemmas.{accepted_within}
 
 -- two lists that go place by place with one are as long
 both_none : {A B : Type 0} (R : A → B → Type 0) (xs : List A) (y : B) (ys : List B) → AllZip R xs (y ∷ ys) → AllZip R xs [] → ⊥
@@ -42,3 +46,21 @@ found_so image db books says alone opened content found =
           subst (KeepsFormed MOST_ENTRIES books) content_is says.keeps
           )
     ]
+
+-- ---- and that it is opened
+
+pub desks_of : (db : Database) (limit : ℕ) (books : Books) → SaysBooks db books → HasVersion db (Some 3) → length books.history ≤ limit → IsDesks limit db
+desks_of db limit books says version few =
+    let kept = says.keeps.tables in
+    inr (
+      says.content,
+      record {
+        becomes = says.tables;
+        version = version;
+        held = record { books = books; keeps = record { tables = kept.tables; accepted = accepted_within MOST_ENTRIES limit books.history few kept.accepted }; register = refl };
+        formed = subst AreWellFormed (sym kept.tables.history) says.keeps.formed;
+      },
+    )
+
+pub desks_in : (image : Image) (db : Database) (limit : ℕ) (books : Books) → SaysBooks db books → HasVersion db (Some 3) → length books.history ≤ limit → HoldsAlone image db.trees → ∥ IsDesksIn limit image ∥₁
+desks_in image db limit books says version few alone = ∥∥₁_map alone.both (λ holds. inr (db, says.is, holds, desks_of db limit books says version few))

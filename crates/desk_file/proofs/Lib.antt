@@ -12,6 +12,7 @@ mod HandedLemmas
 pub mod HistoryFacts
 pub mod KeptLemmas
 pub mod LeftLemmas
+mod LimitLemmas
 pub mod OpenedLemmas
 pub mod OrderLemmas
 pub mod PartLemmas

@@ -21,6 +21,7 @@ use Rattle.sql_rows.specs.Amounts.{amount_at}
 use Rattle.sql_tables.specs.Schema.{desk_schema}
 use Rattle.sql_tables.specs.Version.{HasVersion}
 use Rattle.sql_rows.specs.Said.{HasNoStranger, IsSaid}
+use Rattle.sql_rows.proofs.TrueLemmas.{true_rows}
 use Rattle.sql_tables.specs.declared.fault.AuditFault.{AuditFault}
 use Rattle.desk_file.specs.declared.audit.register.Reading.{Reading}
 use Rattle.desk_file.specs.declared.audit.register.Reading.TheVariants.{Stops}
@@ -72,7 +73,6 @@ parts db limit content schema read rest = record {
 pub audited : (db : Database) (limit : ℕ) (content : Content) → limit ≤ MOST_ENTRIES → db.schema ≡ desk_schema → HasVersion db (Some 3) → IsRead db limit content → SaysRest db content → IsAudited db limit content
 audited db limit content few schema version read rest = record {
   becomes = becomes db limit read.held.books content (parts db limit content schema read rest) few read.held.keeps (subst AreWellFormed read.held.keeps.tables.history read.formed);
-  amounts = rest.amounts.each;
   version = version;
   held = read.held;
   formed = read.formed;
@@ -103,12 +103,13 @@ pub is_filled : (db : Database) (limit : ℕ) (content : Content) → IsAudited 
 is_filled db limit content audited =
     let is : content_in db ≡ content = audited.becomes.content_is in
     let keeps : Keeps db content = subst (Keeps db) is audited.becomes.desk in
+    let recorded = said is keeps in
     record {
       read = record { entries = keeps.entries; held = audited.held; formed = audited.formed };
       rest = record {
         standings = record { kept = keeps.standings; each = λ n. ap (λ (c : Content). c.standing n) is };
         sent = keeps.sent;
-        amounts = record { amounts = keeps.amounts; each = audited.amounts; said = said is keeps };
+        amounts = record { amounts = keeps.amounts; each = true_rows db content keeps.amounts recorded; said = recorded };
       };
     }
   where

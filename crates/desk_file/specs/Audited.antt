@@ -1,6 +1,5 @@
 -- What an audit says of a database.
 use Rattle.std.specs.Prelude.{ℕ, Some}
-use Rattle.std.specs.List.{AllByRecursion}
 use Rattle.sqlite.specs.Effect.{Database}
 use Rattle.desk_rules.specs.Content.{Content, history_of}
 use Rattle.desk_rules.specs.WellFormed.{AreWellFormed}
@@ -8,21 +7,14 @@ use Rattle.desk_engine.specs.KeptHistory.{HoldsKept}
 use Rattle.sql_register.specs.Holds.{Becomes}
 use Rattle.sql_rows.specs.Messages.{AreSent}
 use Rattle.sql_tables.specs.Version.{HasVersion}
-use Rattle.sql_rows.specs.declared.amounts.key.Ledger.{Ledger}
-use Rattle.sql_rows.specs.Keys.{tree_of}
-use Rattle.sql_rows.specs.Said.{HasAmounts, IsTrueRow}
+use Rattle.sql_rows.specs.Said.{HasAmounts}
 use Rattle.desk_file.specs.Reading.{IsRead}
 use Rattle.sql_rows.specs.StandingsTold.{SaysStandings}
-
--- each row of the tables of amounts says 0, or what a content has under its two texts
-abbrev pub HasTrueAmounts : Database → Content → Type 0
-HasTrueAmounts db content = (ledger : Ledger) → AllByRecursion (IsTrueRow content ledger) (db.trees (tree_of ledger))
 
 -- The database is the desk's tables of this version, and says this content, and nothing else; and a register that holds the
 -- content has taken each of its entries, all well formed, in its turn, and gave each the reply that is kept.
 pub record IsAudited (db : Database) (limit : ℕ) (content : Content) : Type 0 where
   pub becomes : Becomes db content
-  pub amounts : HasTrueAmounts db content
   pub version : HasVersion db (Some 3)
   pub held : HoldsKept limit content.register content
   pub formed : AreWellFormed (history_of content)

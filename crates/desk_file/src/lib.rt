@@ -41,7 +41,7 @@ pub use audit::progress::{Progress, Silent};
 pub use audit::rest::Table;
 pub use fault::{Difference, OpenFault};
 pub use files::open_in_order;
-pub use laws::{found_again, is_desk_by_parts, is_live};
+pub use laws::{found_again, is_desk_by_parts, is_live, opens_again};
 pub use mirror::mirrored_register::MirroredRegister;
 pub use opening::{adopt, open_file};
 pub use schema::ours::{has_desk_tables, is_desk};

@@ -87,7 +87,7 @@ no_such zero i is = cc
 no_such (suc n) i is = cc
 
 module _ (db : Database) (empty : AreEmpty db) where
-  pub no_amounts : (ledger : Ledger) → db.trees (tree_of ledger) ≡ []
+  no_amounts : (ledger : Ledger) → db.trees (tree_of ledger) ≡ []
   no_amounts Balance = empty.balances
   no_amounts Cash = empty.cash
   no_amounts Total = empty.totals

@@ -15,7 +15,7 @@ ghost use Rattle.sql_tables.specs.Making.{KeepsCommitted};
 ghost use Rattle.sql_tables.specs.Schema.{no_schema};
 ghost use Rattle.sql_register.specs.Holds.{Becomes};
 ghost use Rattle.sql_register.specs.Kept.{shown, IsKept};
-ghost use Rattle.sql_register.specs.Made.{HasNoAmounts, IsMade};
+ghost use Rattle.sql_register.specs.Made.{IsMade};
 
 use crate::sql_register::SqlRegister;
 use desk_register::Stage;
@@ -80,7 +80,6 @@ impl<S: Alter + Drop> SqlRegister<S> {
         requires open { HasCleanDisk (state S.Store conn) → IsTrue (state S.Store conn).is_open }
         ensures empty { IfOk result (λ r. HasCleanDisk (state S.Store r.connection) → (shown (state S.Store r.connection) r.stage r.room).content ≡ empty_content) }
         ensures desk { IfOk result (λ r. HasCleanDisk (state S.Store r.connection) → Becomes (tables S.Store r.connection) empty_content) }
-        ensures bare { IfOk result (λ r. HasCleanDisk (state S.Store r.connection) → HasNoAmounts (tables S.Store r.connection)) }
         ensures version { IfOk result (λ r. HasCleanDisk (state S.Store r.connection) → HasVersion (tables S.Store r.connection) (Some VERSION)) }
         ensures sure { IfOk result (λ r. HasCleanDisk (state S.Store r.connection) → (shown (state S.Store r.connection) r.stage r.room).is_sure) }
         ensures limit { IfOk result (λ r. r.room ≡ limit) }

@@ -167,7 +167,7 @@ module _ (old new : State) (has : old.now.schema ≡ desk_schema) (open' : IsTru
         refl refl (λ found answer. allowed found (take_finds old key d has amounts found answer)) e h
       where
         allowed : (found : List Row) → FindsToTake old key d has amounts found → IsAllowed db (update_edit db ledger found)
-        allowed found (inl lacks) = subst (λ rows. IsAllowed db (update_edit db ledger rows)) (sym lacks.0) (none_allowed db ledger kept (amounts ledger))
+        allowed found (inl lacks) = subst (λ rows. IsAllowed db (update_edit db ledger rows)) (sym lacks.0) (none_allowed db ledger kept (amounts ledger).are)
         allowed found (inr (r, it, one, high, is)) = subst (λ rows. IsAllowed db (update_edit db ledger rows)) (sym is) (set_allowed r it one (it.amount - d) (omega (arith, it.small)))
 
     pub put_caused : had old.now key + d < 2 ^ 63 → (r : Result ℕ Error) → Executes (put_text ledger) params old new r → IfErr r (ForCause old new)
@@ -177,7 +177,7 @@ module _ (old new : State) (has : old.now.schema ≡ desk_schema) (open' : IsTru
         refl refl (λ found answer. allowed found (put_finds old key d has amounts small found answer)) e h
       where
         allowed : (found : List Row) → FindsToPut old key d has amounts found → IsAllowed db (update_edit db ledger found)
-        allowed found (inl lacks) = subst (λ rows. IsAllowed db (update_edit db ledger rows)) (sym lacks.0) (none_allowed db ledger kept (amounts ledger))
+        allowed found (inl lacks) = subst (λ rows. IsAllowed db (update_edit db ledger rows)) (sym lacks.0) (none_allowed db ledger kept (amounts ledger).are)
         allowed found (inr (r, it, one, fits, is)) = subst (λ rows. IsAllowed db (update_edit db ledger rows)) (sym is) (set_allowed r it one (it.amount + d) fits)
 
     pub first_caused : amount_at old.now key ≡ None → d < 2 ^ 63 → (r : Result ℕ Error) → Executes (first_text ledger) params old new r → IfErr r (ForCause old new)
@@ -187,4 +187,4 @@ module _ (old new : State) (has : old.now.schema ≡ desk_schema) (open' : IsTru
         (λ rows is. one_allowed db ledger kept [] _ (next_rowid (db (tree_of ledger))) (texts_of key) d (first_news old key d has amounts rows is) fresh (first_set old key d has amounts absent small fresh)) e h
       where
         fresh : list_any (λ r. is_eq (value_cmp (rowid r) (Int (next_rowid (db (tree_of ledger)))))) (db (tree_of ledger)) ≡ false
-        fresh = next_is_free Chosen (db (tree_of ledger)) [] (amounts ledger).order (keyed (db (tree_of ledger)) (amounts ledger).stored)
+        fresh = next_is_free Chosen (db (tree_of ledger)) [] (amounts ledger).are.order (keyed (db (tree_of ledger)) (amounts ledger).are.stored)

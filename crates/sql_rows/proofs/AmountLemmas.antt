@@ -7,12 +7,12 @@ use Rattle.sql_rows.specs.declared.amounts.key.Ledger.{Ledger}
 use Rattle.sql_rows.specs.declared.amounts.key.Ledger.TheVariants.{Balance, Cash, Total}
 use Rattle.sql_rows.specs.declared.amounts.key.AmountKey.{AmountKey}
 use Rattle.sql_rows.specs.Keys.{is_of, ledger_of, texts_of, tree_of}
-use Rattle.sql_rows.specs.Amounts.{AreAmounts, AreAmountRows, amount_at, amount_in, recorded}
+use Rattle.sql_rows.specs.Amounts.{AreAmounts, IsAmountTable, amount_at, amount_in, recorded}
 use Rattle.sql_rows.specs.Changes.{IsShort, SetsAmount, had}
 use Rattle.sql_tables.specs.Ends.{SparesOthers}
 use Rattle.sql_rows.specs.Holdings.{IsLess}
 use Rattle.sql_rows.proofs.EffectLemmas.{no_index}
-use Rattle.sql_rows.proofs.PermutationLemmas.{permuted_rows}
+use Rattle.sql_rows.proofs.PermutationLemmas.{permuted_table}
 
 -- the trees of two databases that have the tables of amounts
 pub record SameAmounts (a b : Database) : Type 0 where
@@ -27,14 +27,14 @@ same_tree a b same Total = same.total
 
 -- whatever else differs, the amounts are the same
 pub same_amounts : (a b : Database) → SameAmounts a b → AreAmounts a → AreAmounts b
-same_amounts a b same amounts ledger = subst AreAmountRows (same_tree a b same ledger) (amounts ledger)
+same_amounts a b same amounts ledger = subst (IsAmountTable ledger) (same_tree a b same ledger) (amounts ledger)
 
 pub same_recorded : (a b : Database) → SameAmounts a b → (ledger : Ledger) (first second : List ℕ) → amount_in b ledger first second ≡ amount_in a ledger first second
 same_recorded a b same ledger first second = ap (λ rows. recorded rows (first, second)) (sym (same_tree a b same ledger))
 
 -- where the tables have the rows of others in another order, they are well formed too
 pub permuted_amounts : (a b : Database) → ((ledger : Ledger) → IsPermutation (a.trees (tree_of ledger)) (b.trees (tree_of ledger))) → ((ledger : Ledger) → IsTable (b.trees (tree_of ledger))) → AreAmounts a → AreAmounts b
-permuted_amounts a b same order amounts ledger = permuted_rows (a.trees (tree_of ledger)) (b.trees (tree_of ledger)) (same ledger) (amounts ledger) (order ledger)
+permuted_amounts a b same order amounts ledger = permuted_table ledger (a.trees (tree_of ledger)) (b.trees (tree_of ledger)) (same ledger) (amounts ledger) (order ledger)
 
 -- a change of later tables leaves the amounts as they are
 pub spared_amounts : (first end : ℕ) (old new : Database) → 4 < first → SparesOthers first end old new → SameAmounts old new
@@ -72,7 +72,7 @@ module _ (old mid new : Database) (key : AmountKey) (amount : ℕ) (absent : amo
 
 -- tables with no row are well formed
 pub empty_amounts : (db : Database) → ((ledger : Ledger) → db.trees (tree_of ledger) ≡ []) → AreAmounts db
-empty_amounts db none ledger = subst AreAmountRows (sym (none ledger)) (record { stored = tt; apart = tt; order = tt })
+empty_amounts db none ledger = subst (IsAmountTable ledger) (sym (none ledger)) (record { are = record { stored = tt; apart = tt; order = tt }; keyed = tt })
 
 -- and record nothing
 pub empty_recorded : (db : Database) → ((ledger : Ledger) → db.trees (tree_of ledger) ≡ []) → (ledger : Ledger) (first second : List ℕ) → amount_in db ledger first second ≡ None

@@ -220,6 +220,18 @@ recorded_one texts (x ∷ xs) r more h = elim (cases_Bool (is_at texts x)) [
   | inr apart ↦ (let e : filter (is_at texts) xs ≡ r ∷ more = rw apart at h in rw apart (recorded_one texts xs r more e))
 ]
 
+-- each row records its amount under its own texts
+pub own_recorded : (rows : List Row) → IsAscending AreApart rows → AllByRecursion (λ row. recorded rows (texts_in row) ≡ Some (amount_on row)) rows
+own_recorded [] up = tt
+own_recorded (r ∷ rs) up = (recorded_cons r rs (texts_in r) ∙ ap (λ b. cond b (Some (amount_on r)) (recorded rs (texts_in r))) (same_self (texts_in r)), behind rs up.0 (own_recorded rs up.1))
+  where
+    behind : (ys : List Row) → AllByRecursion (AreApart r) ys → AllByRecursion (λ row. recorded rs (texts_in row) ≡ Some (amount_on row)) ys → AllByRecursion (λ row. recorded (r ∷ rs) (texts_in row) ≡ Some (amount_on row)) ys
+    behind [] apart all = tt
+    behind (y ∷ ys) apart all = (
+      recorded_cons r rs (texts_in y) ∙ ap (λ b. cond b (Some (amount_on r)) (recorded rs (texts_in y))) apart.0.texts ∙ all.0,
+      behind ys apart.1 all.1,
+    )
+
 pub found_stored : (texts : Texts) (rows : List Row) (r : Row) → AllByRecursion IsStored rows → filter (is_at texts) rows ≡ r ∷ [] → IsStored r
 found_stored texts rows r all one = (subst (AllByRecursion IsStored) one (all-filter IsStored (is_at texts) rows all)).0
 
@@ -245,7 +257,7 @@ module _ (rows : List Row) (all : AreAmountRows rows) (texts : Texts) (r : Row) 
   own_id : rowid r ≡ Int it.id
   own_id = ap rowid it.is
 
-  own_texts : texts_in r ≡ texts
+  pub own_texts : texts_in r ≡ texts
   own_texts = same_is (texts_in r) texts (passes (is_at texts) rows r [] one)
 
   all_parts : AreAmountRows (parts.0 ++ r ∷ parts.1)

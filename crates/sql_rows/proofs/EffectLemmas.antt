@@ -1,6 +1,6 @@
 -- What the statements do to the tables of amounts, and what they show.
 use Rattle.std.proofs.Common.{◌≡◌, ◌≢◌, ◌⊎◌, inl, inr, ℕ, ◌+◌, ◌-◌, ◌<◌, ◌≤◌, ◌^◌, ℤ, pos, ◌+ℤ◌, ◌-ℤ◌, nat_le, ◌==◌, List, [], ◌∷◌, length, map, filter, Bool, true, false, cond, not, ◌&&◌, None, Some, Ok, unwrap_or, slice_get, codes, refl, sym, ap, subst, ◌∙◌, arith}
-use Rattle.std.specs.List.{list_any}
+use Rattle.std.specs.List.{AllByRecursion, list_any}
 use Rattle.std.specs.List.Sorted.{IsPermutation}
 use Rattle.std.specs.Str.{bytes_eq}
 use Rattle.std.specs.Ordering.{is_eq}
@@ -29,6 +29,8 @@ use Rattle.sqlite.specs.Tree.{Trees, put_row, rowid, without_rowid}
 use Rattle.sqlite_sql.specs.declared.ops.BinaryOp.TheVariants.{Arith}
 use Rattle.sqlite_sql.specs.declared.ops.ArithOp.TheVariants.{Sub, Add}
 use Rattle.sqlite.proofs.Callers.{reads_as, one_permutation}
+use Rattle.sqlite_trees.proofs.ListLemmas.{all-filter}
+use Rattle.sqlite_trees.proofs.TreeLemmas.{all-put_row}
 use Rattle.sql_tables.specs.Schema.{desk_schema, needed, not_below_nought, ascending, unstamped}
 use Rattle.sql_tables.specs.Queries.{passes_all, plain}
 use Rattle.sql_tables.proofs.QueryLemmas.{plain_rows, same_found}
@@ -39,12 +41,12 @@ use Rattle.sql_rows.specs.declared.amounts.key.Ledger.TheVariants.{Balance, Cash
 use Rattle.sql_rows.specs.declared.amounts.key.AmountKey.{AmountKey}
 use Rattle.sql_rows.specs.Keys.{Texts, same_texts, same_ledger, ledger_of, texts_of, tree_of}
 use Rattle.sql_rows.specs.AmountStatements.{amount_text, take_text, put_text, first_text}
-use Rattle.sql_rows.specs.Amounts.{AreAmounts, AreAmountRows, IsStored, amount_at, amount_in, amount_on, is_at, recorded, stored}
+use Rattle.sql_rows.specs.Amounts.{AreAmounts, AreAmountRows, IsAmountTable, IsKeyed, IsStored, amount_at, amount_in, amount_on, is_at, recorded, stored, texts_in}
 use Rattle.sql_tables.specs.Rows.{number_rows}
 use Rattle.sql_rows.specs.Changes.{IsShort, Raises, SetsAmount, Takes, had}
 use Rattle.sql_tables.specs.Ends.{SparesOthers}
 use Rattle.sql_rows.proofs.AmountMeanings.{less_shown, more_shown, key_terms, take_terms, first_terms, place_of, amount_is, amount_query, take_is, take_edit, put_is, put_edit, first_is, first_edit}
-use Rattle.sql_rows.proofs.AmountRowLemmas.{once, recorded_none, recorded_one, found_stored, set_rows, set_all, set_recorded, first_all, first_recorded_by}
+use Rattle.sql_rows.proofs.AmountRowLemmas.{once, recorded_none, recorded_one, found_stored, own_texts, set_rows, set_all, set_recorded, first_all, first_recorded_by}
 
 -- ---- the three tables are of one form
 
@@ -187,7 +189,7 @@ pub shows_amount : (old new : State) (key : AmountKey) (rows : List Row) → old
 shows_amount old new key rows has amounts h =
     let ledger = ledger_of key in
     let texts = texts_of key in
-    let all = amounts ledger in
+    let all = (amounts ledger).are in
     let held = old.now.trees (tree_of ledger) in
     let query = amount_query ledger in
     let answers = reads_as (amount_text ledger) (of_texts texts []) old new desk_schema has _ (amount_is ledger) query.plain query.unlisted rows h in
@@ -210,12 +212,12 @@ module _ (old new : Database) (key : AmountKey) (amount : ℕ) (rows : List Row)
   outside_not tree e (inl low) = omega arith
   outside_not tree e (inr high) = let low = below_six mine in omega arith
 
-  sets_amount : AreAmounts old → LeavesRows old new mine rows → AreAmountRows rows
+  sets_amount : AreAmounts old → LeavesRows old new mine rows → IsAmountTable mine rows
       → ((other : Texts) → recorded rows other ≡ cond (same_texts (texts_of key) other) (Some amount) (recorded (old.trees (tree_of mine)) other)) → SetsAmount old new key amount
   sets_amount amounts left all now = record {
     kept = λ ledger. elim (cases_Bool (same_ledger mine ledger)) [
-      | inl here ↦ subst (λ l. AreAmountRows (new.trees (tree_of l))) (ledger_is mine ledger here) (subst AreAmountRows (sym left.are) all)
-      | inr apart ↦ subst AreAmountRows (sym (left.others (tree_of ledger) (tree_apart mine ledger apart) (no_index ledger))) (amounts ledger)
+      | inl here ↦ subst (λ l. IsAmountTable l (new.trees (tree_of l))) (ledger_is mine ledger here) (subst (IsAmountTable mine) (sym left.are) all)
+      | inr apart ↦ subst (IsAmountTable ledger) (sym (left.others (tree_of ledger) (tree_apart mine ledger apart) (no_index ledger))) (amounts ledger)
     ];
     recorded = λ ledger first second. elim (cases_Bool (same_ledger mine ledger)) [
       | inl here ↦ subst (λ l. amount_in new l first second ≡ cond (same_ledger mine ledger && same_texts (texts_of key) (first, second)) (Some amount) (amount_in old l first second)) (ledger_is mine ledger here)
@@ -300,7 +302,7 @@ module _ (old : State) (key : AmountKey) (d : ℕ) (has : old.now.schema ≡ des
   params = of_texts texts (Int (pos d) ∷ [])
 
   all : AreAmountRows held
-  all = amounts own
+  all = (amounts own).are
 
   -- what UPDATE shows: no row, for this reason, or the row of the two texts with its new amount
   abbrev pub Finds : Type 0 → (ℕ → Type 0) → (ℕ → ℕ) → List Row → Type 0
@@ -370,8 +372,13 @@ module _ (old : State) (key : AmountKey) (d : ℕ) (has : old.now.schema ≡ des
     pub row_set : AreAmountRows (put_row (stored it.id it.texts amount) (without_rowid it.id held))
     row_set = set_all held all texts r one it amount small
 
+    set_keyed : AllByRecursion (IsKeyed own) (put_row (stored it.id it.texts amount) (without_rowid it.id held))
+    set_keyed =
+        let is : texts_of key ≡ it.texts = sym (sym (ap texts_in it.is) ∙ own_texts held all texts r one it amount small) in
+        all-put_row (IsKeyed own) (stored it.id it.texts amount) (without_rowid it.id held) (inr (record { key = key; ledger_is = refl; texts_are = is })) (all-filter (IsKeyed own) _ held (amounts own).keyed)
+
     pub amount_set : (new : Database) → LeavesRows old.now new own (put_row (stored it.id it.texts amount) (without_rowid it.id held)) → SetsAmount old.now new key amount
-    amount_set new left = sets_amount old.now new key amount (set_rows held all texts r one it amount small) amounts left row_set (set_recorded held all texts r one it amount small)
+    amount_set new left = sets_amount old.now new key amount (set_rows held all texts r one it amount small) amounts left (record { are = row_set; keyed = set_keyed }) (set_recorded held all texts r one it amount small)
 
   pub had_one : (r : Row) (it : IsStored r) → filter (is_at texts) held ≡ r ∷ [] → it.amount ≡ had old.now key
   had_one r it one = sym (ap (λ o. unwrap_or o 0) (recorded_one texts held r [] one ∙ ap (λ row. Some (amount_on row)) it.is))
@@ -390,6 +397,9 @@ module _ (old : State) (key : AmountKey) (d : ℕ) (has : old.now.schema ≡ des
 
     pub first_set : list_any (λ r. is_eq (value_cmp (rowid r) (Int (next_rowid held)))) held ≡ false → AreAmountRows (put_row (stored (next_rowid held) texts d) held)
     first_set fresh = first_all held all texts none_found (next_rowid held) d small fresh
+
+  first_keyed : AllByRecursion (IsKeyed own) (put_row (stored (next_rowid held) texts d) held)
+  first_keyed = all-put_row (IsKeyed own) (stored (next_rowid held) texts d) held (inr (record { key = key; ledger_is = refl; texts_are = refl })) (amounts own).keyed
 
   -- ---- what is done
 
@@ -428,4 +438,4 @@ module _ (old : State) (key : AmountKey) (d : ℕ) (has : old.now.schema ≡ des
         let free : not (list_any (λ r. is_eq (value_cmp (rowid r) (Int id))) held) && true ≡ true = ap (are_fresh held) (sym news) ∙ made.2.fresh in
         let fresh : list_any (λ r. is_eq (value_cmp (rowid r) (Int id))) held ≡ false = not-true _ (and_parts _ _ free).0 in
         let left : LeavesRows old.now new.now own (put_row (stored id texts d) held) = record { are = made.2.rows ∙ ap (put_all held) news; others = made.2.others } in
-        sets_amount old.now new.now key d (put_row (stored id texts d) held) amounts left (first_set absent small fresh) (first_recorded_by held all texts (none_found absent small) id d small fresh)
+        sets_amount old.now new.now key d (put_row (stored id texts d) held) amounts left (record { are = first_set absent small fresh; keyed = first_keyed }) (first_recorded_by held all texts (none_found absent small) id d small fresh)

@@ -23,6 +23,7 @@ use Rattle.sql_rows.specs.Said.{HasAmounts, HasNoStranger, HasReadable}
 use Rattle.sql_rows.specs.Shown.{AreTrueTables, IsTrueTable}
 use Rattle.sql_rows.specs.Recorded.{AreAllRecorded, AreHoldingsRecorded, IsCashRecorded, IsEntryRecorded, IsPaidRecorded, IsRecorded, SaysAll}
 use Rattle.sql_rows.proofs.AmountComparedRows.{IsSaidOrNought, said_or_nought}
+use Rattle.sql_rows.proofs.TrueLemmas.{all_keyed}
 
 module _ (db : Database) (content : Content) where
   abbrev Each : List Entry → Type 0
@@ -121,7 +122,7 @@ module _ (db : Database) (content : Content) where
   true_of trues ledgers.Total = trues.total
 
   pub amounts_of : AreTrueTables db content → AreAmounts db
-  amounts_of trues ledger = (true_of trues ledger).rows
+  amounts_of trues ledger = let table = true_of trues ledger in record { are = table.rows; keyed = all_keyed content ledger (db.trees (tree_of ledger)) table.each }
 
   module _ (trues : AreTrueTables db content) (all : AreAllRecorded db content) (paid : IsPaidRecorded db content) (strange : HasNoStranger content) where
     abbrev h : List Entry
@@ -174,7 +175,7 @@ tables_of db content it = record {
 }
   where
     of : (ledger : Ledger) → IsTrueTable db content ledger
-    of ledger = record { rows = it.amounts ledger; each = it.each ledger }
+    of ledger = record { rows = (it.amounts ledger).are; each = it.each ledger }
 
 pub says_all : (db : Database) (content : Content) → HasReadable content → HasAmounts db content → SaysAll db content
 says_all db content can it = record { amounts = it.amounts; each = it.said; readable = can }

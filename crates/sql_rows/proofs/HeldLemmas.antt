@@ -70,9 +70,9 @@ module _ (old new : State) (has : old.now.schema ≡ desk_schema) (amounts : Are
     shows_sum rows h =
         let answers = reads_as text (Words code ∷ []) old new desk_schema has _ is query.plain query.unlisted rows h in
         let passing = table_rows ledger code_terms (col 1 3 ∷ []) old.now.trees (Words code ∷ []) rows (answers.answer Null) in
-        let same = same_found IsStored (passes_all code_terms (Words code ∷ [])) (is_in code) held (code_test code) (amounts ledger).stored in
+        let same = same_found IsStored (passes_all code_terms (Words code ∷ [])) (is_in code) held (code_test code) (amounts ledger).are.stored in
         let found : IsPermutation (map amount_row (filter (is_in code) held)) rows = subst (λ xs. IsPermutation (map amount_row xs) rows) same passing in
-        let numbers = number_rows (filter (is_in code) held) (all-filter IsStored (is_in code) held (amounts ledger).stored) in
+        let numbers = number_rows (filter (is_in code) held) (all-filter IsStored (is_in code) held (amounts ledger).are.stored) in
         record {
           numbers = All-permutation ShowsNumber (map amount_row (filter (is_in code) held)) rows found (All-from_recursion ShowsNumber (map amount_row (filter (is_in code) held)) numbers);
           adds_up = sum_by-IsPermutation number_shown (map amount_row (filter (is_in code) held)) rows found ∙ same_sum (filter (is_in code) held);
@@ -172,17 +172,17 @@ module _ (db : Database) (amounts : AreAmounts db) where
       → ((account : List ℕ) → sum_by (λ other. cond (bytes_eq account other) 1 0) accounts ≡ cond (is_listed account) 1 0)
       → ((account : List ℕ) → is_listed account ≡ false → unwrap_or (amount_in db Balance account isin) 0 ≡ 0)
       → sum_by (λ account. unwrap_or (amount_in db Balance account isin) 0) accounts ≡ total_held db isin
-  held_listed isin accounts is_listed once nothing = sum_listed isin accounts is_listed once (db.trees (tree_of Balance)) (amounts Balance).apart nothing
+  held_listed isin accounts is_listed once nothing = sum_listed isin accounts is_listed once (db.trees (tree_of Balance)) (amounts Balance).are.apart nothing
 
   pub cash_listed : (ccy : Ccy) (bics : List (List ℕ)) (is_listed : List ℕ → Bool)
       → ((bic : List ℕ) → sum_by (λ other. cond (bytes_eq bic other) 1 0) bics ≡ cond (is_listed bic) 1 0)
       → ((bic : List ℕ) → is_listed bic ≡ false → unwrap_or (amount_in db Cash bic (letters_of ccy)) 0 ≡ 0)
       → sum_by (λ bic. unwrap_or (amount_in db Cash bic (letters_of ccy)) 0) bics ≡ total_cash db ccy
-  cash_listed ccy bics is_listed once nothing = sum_listed (letters_of ccy) bics is_listed once (db.trees (tree_of Cash)) (amounts Cash).apart nothing
+  cash_listed ccy bics is_listed once nothing = sum_listed (letters_of ccy) bics is_listed once (db.trees (tree_of Cash)) (amounts Cash).are.apart nothing
 
   -- what is recorded is below 2^63
   pub small_amount : (ledger : Ledger) (first second : List ℕ) → unwrap_or (amount_in db ledger first second) 0 < 2 ^ 63
-  small_amount ledger first second = each (db.trees (tree_of ledger)) (amounts ledger).stored
+  small_amount ledger first second = each (db.trees (tree_of ledger)) (amounts ledger).are.stored
     where
       each : (rows : List Row) → AllByRecursion IsStored rows → unwrap_or (recorded rows (first, second)) 0 < 2 ^ 63
       each [] all = omega arith

@@ -135,7 +135,7 @@ module _ (db : Database) (account above : List ℕ) (all : AreAmountRows (db.tre
 pub shows_next : (old new : State) (account : List ℕ) (above : Option (List ℕ)) (rows : List Row) → old.now.schema ≡ desk_schema → AreAmounts old.now
     → Shown next_text (of_texts (account, unwrap_or above []) []) old new rows → ShowsNext old.now account above rows
 shows_next old new account above rows has amounts h =
-    let all = amounts Balance in
+    let all = (amounts Balance).are in
     let from = unwrap_or above [] in
     let texts : Texts = (account, from) in
     let answers = reads_as next_text (of_texts texts []) old new desk_schema has _ next_is next_query.plain next_query.unlisted rows h in

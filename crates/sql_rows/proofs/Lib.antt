@@ -9,6 +9,7 @@ pub mod AmountLemmas
 pub mod ClauseLemmas
 pub mod PermutationLemmas
 pub mod AmountCauses
+pub mod TrueLemmas
 mod EntryLemmas
 mod FormLemmas
 mod AmountComparedRows

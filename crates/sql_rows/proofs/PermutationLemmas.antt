@@ -9,8 +9,9 @@ use Rattle.std.proofs.lemmas.List.Sorted.{All-permutation, IsPermutation-sym, su
 use Rattle.std.proofs.lemmas.List.Sums.{sum_by-cons}
 use Rattle.sqlite.specs.Order.{Row, value_cmp}
 use Rattle.sqlite.specs.Tree.{IsAscending, IsTable, rowid}
+use Rattle.sql_rows.specs.declared.amounts.key.Ledger.{Ledger}
 use Rattle.sql_rows.specs.Keys.{Texts, same_texts}
-use Rattle.sql_rows.specs.Amounts.{AreAmountRows, AreApart, IsStored, amount_on, is_at, recorded, texts_in}
+use Rattle.sql_rows.specs.Amounts.{AreAmountRows, AreApart, IsAmountTable, IsKeyed, IsStored, amount_on, is_at, recorded, texts_in}
 use Rattle.sql_tables.specs.Queries.{Among}
 use Rattle.sql_tables.proofs.QueryLemmas.{all_among, among_filter, at_among, filter_among, none_among, only_one}
 use Rattle.sql_rows.proofs.AmountRowLemmas.{flip_apart, once, recorded_none, recorded_one, same_self}
@@ -108,6 +109,10 @@ permuted_apart rows others same apart = apart_each others (counted_in rows other
 -- of rows that are well formed a permutation is, if it is in order
 pub permuted_rows : (rows others : List Row) → IsPermutation rows others → AreAmountRows rows → IsTable others → AreAmountRows others
 permuted_rows rows others same all order = record { stored = all_permuted IsStored rows others same all.stored; apart = permuted_apart rows others same all.apart; order = order }
+
+-- and each says 0 or is a key's, if it was so
+pub permuted_table : (ledger : Ledger) (rows others : List Row) → IsPermutation rows others → IsAmountTable ledger rows → IsTable others → IsAmountTable ledger others
+permuted_table ledger rows others same table order = record { are = permuted_rows rows others same table.are order; keyed = all_permuted (IsKeyed ledger) rows others same table.keyed }
 
 found_in : (rows others : List Row) (texts : Texts) (r : Row) → IsPermutation rows others → filter (is_at texts) rows ≡ r ∷ [] → Among (filter (is_at texts) others) r
 found_in rows others texts r same one =

@@ -1,5 +1,5 @@
 -- What the three tables of amounts say.
-use Rattle.std.specs.Prelude.{◌≡◌, ℕ, ◌<◌, ◌^◌, ℤ, pos, Bool, false, List, [], ◌∷◌, Option, option_map}
+use Rattle.std.specs.Prelude.{◌≡◌, ◌⊎◌, ℕ, ◌<◌, ◌^◌, ℤ, pos, Bool, false, List, [], ◌∷◌, Option, option_map}
 use Rattle.std.specs.List.{AllByRecursion, find}
 use Rattle.std.specs.Ordering.{is_eq}
 use Rattle.sqlite.specs.declared.types.Value.{Value}
@@ -56,9 +56,24 @@ is_at texts row = same_texts (texts_in row) texts
 abbrev pub recorded : List Row → Texts → Option ℕ
 recorded rows texts = option_map amount_on (find (is_at texts) rows)
 
+-- two texts are those of a key of a table
+pub record AreOfKey (ledger : Ledger) (texts : Texts) : Type 0 where
+  pub key : AmountKey
+  pub ledger_is : ledger_of key ≡ ledger
+  pub texts_are : texts_of key ≡ texts
+
+-- a row says 0, or what it says it says under a key of its table
+abbrev pub IsKeyed : Ledger → Row → Type 0
+IsKeyed ledger row = (amount_on row ≡ 0) ⊎ AreOfKey ledger (texts_in row)
+
+-- the rows of a table of amounts, each of which says 0, or is a key's
+pub record IsAmountTable (ledger : Ledger) (rows : List Row) : Type 0 where
+  pub are : AreAmountRows rows
+  pub keyed : AllByRecursion (IsKeyed ledger) rows
+
 -- the tables of amounts are well formed
 abbrev pub AreAmounts : Database → Type 0
-AreAmounts db = (ledger : Ledger) → AreAmountRows (db.trees (tree_of ledger))
+AreAmounts db = (ledger : Ledger) → IsAmountTable ledger (db.trees (tree_of ledger))
 
 -- what a table records under two texts; none where it has no such row
 abbrev pub amount_in : Database → Ledger → List ℕ → List ℕ → Option ℕ

@@ -11,9 +11,8 @@ use Rattle.sql_tables.proofs.MakingLemmas.{kept_then}
 use Rattle.sql_tables.proofs.ResultLemmas.{on_error}
 use Rattle.sql_tables.proofs.VersionLemmas.{no_version}
 use Rattle.sql_register.specs.Holds.{Becomes}
-use Rattle.sql_register.specs.Made.{HasNoAmounts}
 use Rattle.sql_register.proofs.MadeLemmas.{fallen_kept, written_kept}
-use Rattle.sql_register.proofs.EmptyContent.{blank_empty, empty_becomes, no_amounts, version_empty}
+use Rattle.sql_register.proofs.EmptyContent.{blank_empty, empty_becomes, version_empty}
 use Rattle.sql_register.proofs.ReadLemmas.{was_clean}
 use Rattle.sql_register.proofs.making.make.Goals as goal
 
@@ -35,7 +34,6 @@ returns-clause-made g c clean is_open blank =
       is_open = done.is_open;
       settled = done.now ∙ sym done.committed;
       empty = subst (λ d. Becomes d empty_content) (sym done.now) (empty_becomes s3.now (version_empty s2.now s3.now made.empty stays.schema set));
-      bare = subst HasNoAmounts (sym done.now) (no_amounts s3.now (version_empty s2.now s3.now made.empty stays.schema set));
       version = subst (λ d. HasVersion d (Some VERSION)) (sym done.now) set.version;
       mode = done.mode;
       marks = done.marks;

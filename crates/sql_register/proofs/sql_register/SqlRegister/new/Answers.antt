@@ -7,7 +7,7 @@ use Rattle.sql_tables.specs.Version.{HasVersion}
 use Rattle.sql_tables.specs.declared.version.TheConstants.{VERSION}
 use Rattle.sql_register.specs.Content.{content_in}
 use Rattle.sql_register.specs.Holds.{Becomes}
-use Rattle.sql_register.specs.Made.{HasNoAmounts, IsMade}
+use Rattle.sql_register.specs.Made.{IsMade}
 use Rattle.sql_register.proofs.MadeLemmas.{made_kept}
 use Rattle.sql_register.proofs.ReadLemmas.{was_clean}
 use Rattle.sql_register.proofs.sql_register.SqlRegister.new.Goals as goal
@@ -32,13 +32,6 @@ returns-in-Ok-clause-desk g c =
     let s1 = state g.S.Store c.make.new.conn in
     let made : HasCleanDisk s1 → IsMade s1 = λ clean. c.in-Ok.ensures.made clean (c.requires.open (was_clean s0 s1 c.in-Ok.ensures.later clean)) (c.if-not-has_no_table.ensures.some refl) in
     subst (λ k. HasCleanDisk (state g.S.Store k) → Becomes (state g.S.Store k).now empty_content) (sym c.over.ensures.connection) (λ clean. (made clean).empty)
-
-pub returns-in-Ok-clause-bare : goal.returns-in-Ok-clause-bare
-returns-in-Ok-clause-bare g c =
-    let s0 = state g.S.Store c.args.conn in
-    let s1 = state g.S.Store c.make.new.conn in
-    let made : HasCleanDisk s1 → IsMade s1 = λ clean. c.in-Ok.ensures.made clean (c.requires.open (was_clean s0 s1 c.in-Ok.ensures.later clean)) (c.if-not-has_no_table.ensures.some refl) in
-    subst (λ k. HasCleanDisk (state g.S.Store k) → HasNoAmounts (state g.S.Store k).now) (sym c.over.ensures.connection) (λ clean. (made clean).bare)
 
 pub returns-in-Ok-clause-version : goal.returns-in-Ok-clause-version
 returns-in-Ok-clause-version g c =

@@ -1,0 +1,8 @@
+use Rattle.desk_file.proofs.AgainLemmas.{desks_in, desks_of}
+use Rattle.desk_file.proofs.laws.opens_again.Goals as goal
+
+pub returns-clause-database : goal.returns-clause-database
+returns-clause-database c = desks_of
+
+pub returns-clause-files : goal.returns-clause-files
+returns-clause-files c = desks_in
