@@ -1,5 +1,5 @@
 -- What is opened of files that hold a database of these books, and that it is.
-use Rattle.std.proofs.Common.{◌≡◌, ◌≤◌, ℕ, inl, inr, List, [], ◌∷◌, filter, length, Some, refl, sym, ap, ◌∙◌, subst}
+use Rattle.std.proofs.Common.{◌≡◌, ◌≤◌, ℕ, inl, inr, List, [], ◌∷◌, filter, length, refl, sym, ap, ◌∙◌, subst}
 use Rattle.std.proofs.Math.Logic.{∥∥₁_elim, ∥∥₁_map}
 use Rattle.std.specs.List.{AllZip}
 use Rattle.sqlite.specs.Closing.{HoldsAlone}
@@ -14,9 +14,9 @@ use Rattle.desk_rules.specs.Content.{Content}
 use Rattle.desk_rules.specs.WellFormed.{AreWellFormed}
 use Rattle.desk_rules.specs.declared.limits.TheConstants.{MOST_ENTRIES}
 use Rattle.desk_engine.specs.Ready.{KeepsFormed}
+use Rattle.desk_engine.proofs.AcceptingLemmas.{entries_within}
 use Rattle.sql_register.specs.Content.{content_in}
 use Rattle.sql_tables.specs.Schema.{desk_schema, no_schema}
-use Rattle.sql_tables.specs.Version.{HasVersion}
 use Rattle.desk_file.specs.Desks.{IsDesks, IsDesksIn}
 use Rattle.desk_file.specs.Opened.{FindsIn}
 use Rattle.desk_file.specs.Said.{SaysBooks}
@@ -49,18 +49,21 @@ found_so image db books says alone opened content found =
 
 -- ---- and that it is opened
 
-pub desks_of : (db : Database) (limit : ℕ) (books : Books) → SaysBooks db books → HasVersion db (Some 3) → length books.history ≤ limit → IsDesks limit db
-desks_of db limit books says version few =
+pub desks_of : (db : Database) (limit : ℕ) (books : Books) → SaysBooks db books → length books.history ≤ limit → IsDesks limit db
+desks_of db limit books says few =
     let kept = says.keeps.tables in
     inr (
       says.content,
       record {
         becomes = says.tables;
-        version = version;
         held = record { books = books; keeps = record { tables = kept.tables; accepted = accepted_within MOST_ENTRIES limit books.history few kept.accepted }; register = refl };
         formed = subst AreWellFormed (sym kept.tables.history) says.keeps.formed;
       },
     )
 
-pub desks_in : (image : Image) (db : Database) (limit : ℕ) (books : Books) → SaysBooks db books → HasVersion db (Some 3) → length books.history ≤ limit → HoldsAlone image db.trees → ∥ IsDesksIn limit image ∥₁
-desks_in image db limit books says version few alone = ∥∥₁_map alone.both (λ holds. inr (db, says.is, holds, desks_of db limit books says version few))
+pub desks_in : (image : Image) (db : Database) (limit : ℕ) (books : Books) → SaysBooks db books → length books.history ≤ limit → HoldsAlone image db.trees → ∥ IsDesksIn limit image ∥₁
+desks_in image db limit books says few alone = ∥∥₁_map alone.both (λ holds. inr (db, says.is, holds, desks_of db limit books says few))
+
+-- the books of a desk that may hold the most have no more entries than that
+pub desks_in_most : (image : Image) (db : Database) (books : Books) → SaysBooks db books → HoldsAlone image db.trees → ∥ IsDesksIn MOST_ENTRIES image ∥₁
+desks_in_most image db books says = desks_in image db MOST_ENTRIES books says (entries_within MOST_ENTRIES books.history says.keeps.tables.accepted)

@@ -1,5 +1,5 @@
 -- A register that is two, of parts of which all is known.
-use Rattle.std.proofs.Common.{◌≡◌, ℕ, Some, sym, subst, IsTrue}
+use Rattle.std.proofs.Common.{◌≡◌, ℕ, sym, subst, IsTrue}
 use Rattle.sqlite.specs.Effect.{Database}
 use Rattle.sqlite.specs.Held.{state}
 use Rattle.sqlite.specs.State.{HasCleanDisk}
@@ -16,7 +16,6 @@ use Rattle.desk_file.specs.Reading.{HoldsFormed}
 use Rattle.desk_file.proofs.ReadingLemmas.{none_formed}
 use Rattle.sql_register.specs.Holds.{Becomes}
 use Rattle.sql_register.specs.Kept.{Kept}
-use Rattle.sql_tables.specs.Version.{HasVersion}
 use Rattle.desk_file.specs.Opened.{AreReadyTables, Finds, IsOpened, KeepAudited}
 use Rattle.desk_file.proofs.ReadyLemmas.{both_ready}
 
@@ -25,12 +24,11 @@ use Rattle.desk_file.proofs.ReadyLemmas.{both_ready}
 pub nothing_held : (limit : ℕ) (content : Content) → content ≡ empty_content → HoldsFormed limit content
 nothing_held limit content empty = none_formed limit content (holds_none limit content empty)
 
-pub nothing_audited : (db : Database) (limit : ℕ) (content : Content) → content ≡ empty_content → Becomes db empty_content → HasVersion db (Some 3) → IsAudited db limit content
-nothing_audited db limit content empty becomes version =
+pub nothing_audited : (db : Database) (limit : ℕ) (content : Content) → content ≡ empty_content → Becomes db empty_content → IsAudited db limit content
+nothing_audited db limit content empty becomes =
     let holds = nothing_held limit content empty in
     record {
       becomes = subst (Becomes db) (sym empty) becomes;
-      version = version;
       held = holds.held;
       formed = holds.formed;
     }

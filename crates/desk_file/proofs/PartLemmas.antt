@@ -39,6 +39,7 @@ module _ (db : Database) (limit : ℕ) (books : Books) (content : Content) (part
   whole : Keeps db content
   whole = record {
     schema = parts.schema;
+    version = parts.version;
     amounts = parts.amounts;
     entries = parts.entries;
     standings = parts.standings;

@@ -56,9 +56,10 @@ no_stranger limit content held = record {
   pays = stranger_has_none limit held.books content held.keeps;
 }
 
-parts : (db : Database) (limit : ℕ) (content : Content) → db.schema ≡ desk_schema → IsRead db limit content → SaysRest db content → HasParts db content
-parts db limit content schema read rest = record {
+parts : (db : Database) (limit : ℕ) (content : Content) → db.schema ≡ desk_schema → HasVersion db (Some 3) → IsRead db limit content → SaysRest db content → HasParts db content
+parts db limit content schema version read rest = record {
   schema = schema;
+  version = version;
   entries = read.entries;
   standings = rest.standings.kept;
   standing = rest.standings.each;
@@ -72,8 +73,7 @@ parts db limit content schema read rest = record {
 
 pub audited : (db : Database) (limit : ℕ) (content : Content) → limit ≤ MOST_ENTRIES → db.schema ≡ desk_schema → HasVersion db (Some 3) → IsRead db limit content → SaysRest db content → IsAudited db limit content
 audited db limit content few schema version read rest = record {
-  becomes = becomes db limit read.held.books content (parts db limit content schema read rest) few read.held.keeps (subst AreWellFormed read.held.keeps.tables.history read.formed);
-  version = version;
+  becomes = becomes db limit read.held.books content (parts db limit content schema version read rest) few read.held.keeps (subst AreWellFormed read.held.keeps.tables.history read.formed);
   held = read.held;
   formed = read.formed;
 }

@@ -1,12 +1,11 @@
 -- What an audit says of a database.
-use Rattle.std.specs.Prelude.{ℕ, Some}
+use Rattle.std.specs.Prelude.{ℕ}
 use Rattle.sqlite.specs.Effect.{Database}
 use Rattle.desk_rules.specs.Content.{Content, history_of}
 use Rattle.desk_rules.specs.WellFormed.{AreWellFormed}
 use Rattle.desk_engine.specs.KeptHistory.{HoldsKept}
 use Rattle.sql_register.specs.Holds.{Becomes}
 use Rattle.sql_rows.specs.Messages.{AreSent}
-use Rattle.sql_tables.specs.Version.{HasVersion}
 use Rattle.sql_rows.specs.Said.{HasAmounts}
 use Rattle.desk_file.specs.Reading.{IsRead}
 use Rattle.sql_rows.specs.StandingsTold.{SaysStandings}
@@ -15,7 +14,6 @@ use Rattle.sql_rows.specs.StandingsTold.{SaysStandings}
 -- content has taken each of its entries, all well formed, in its turn, and gave each the reply that is kept.
 pub record IsAudited (db : Database) (limit : ℕ) (content : Content) : Type 0 where
   pub becomes : Becomes db content
-  pub version : HasVersion db (Some 3)
   pub held : HoldsKept limit content.register content
   pub formed : AreWellFormed (history_of content)
 

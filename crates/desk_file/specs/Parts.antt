@@ -1,5 +1,5 @@
 -- What makes a database the desk's tables of a content, table by table.
-use Rattle.std.specs.Prelude.{◌≡◌, ℕ, ◌+◌, List, unwrap_or}
+use Rattle.std.specs.Prelude.{◌≡◌, ℕ, ◌+◌, List, Some, unwrap_or}
 use Rattle.sqlite.specs.Effect.{Database}
 use Rattle.desk_codes.specs.declared.currency.Ccy.{Ccy}
 use Rattle.desk_codes.specs.Currency.{letters_of}
@@ -12,11 +12,14 @@ use Rattle.sql_entries.specs.Entries.{AreEntries}
 use Rattle.sql_rows.specs.Messages.{AreSent}
 use Rattle.sql_rows.specs.Standings.{AreStandings, standing_in}
 use Rattle.sql_tables.specs.Schema.{desk_schema}
+use Rattle.sql_tables.specs.Version.{HasVersion}
+use Rattle.sql_tables.specs.declared.version.TheConstants.{VERSION}
 use Rattle.sql_register.specs.Holds.{outstanding_in, paid_in_table}
 
 -- each table says, by itself, what a content does
 pub record HasParts (db : Database) (content : Content) : Type 0 where
   pub schema : db.schema ≡ desk_schema
+  pub version : HasVersion db (Some VERSION)
   pub entries : AreEntries db content.register
   pub standings : AreStandings db
   pub standing : (n : ℕ) → standing_in db n ≡ content.standing n

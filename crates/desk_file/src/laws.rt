@@ -1,5 +1,5 @@
 //! Laws, each the contract of a function with an empty body, or with a call that says it.
-ghost use Rattle.std.specs.Prelude.{ℕ, ◌≤◌, length, Some};
+ghost use Rattle.std.specs.Prelude.{ℕ, ◌≤◌, length};
 ghost use Rattle.sqlite.specs.Closing.{HoldsAlone};
 ghost use Rattle.sqlite.specs.Effect.{Database};
 ghost use Rattle.sqlite.specs.Held.{state};
@@ -12,7 +12,6 @@ ghost use Rattle.desk_rules.specs.Content.{Content};
 ghost use Rattle.desk_rules.specs.WellFormed.{AreWellFormed};
 ghost use Rattle.desk_rules.specs.declared.limits.TheConstants.{MOST_ENTRIES};
 ghost use Rattle.sql_register.specs.Holds.{Becomes};
-ghost use Rattle.sql_tables.specs.Version.{HasVersion};
 ghost use Rattle.desk_file.specs.Desks.{IsDesks, IsDesksIn};
 ghost use Rattle.desk_file.specs.Opened.{FindsIn};
 ghost use Rattle.desk_file.specs.Parts.{HasParts};
@@ -34,12 +33,14 @@ pub fn found_again()
         → (opened : Database) (content : Content) → FindsIn image opened content → KeepsFormed MOST_ENTRIES books content }
 {}
 
-/// What a desk leaves is not refused: a database that says some books and this version is a desk's, for whoever opens it for as
-/// many entries as the books have, and so are files that hold it. With `found_again`, it is opened as the desk of these books.
+/// What a desk leaves is not refused: a database that says some books is a desk's, for whoever opens it for as many entries as the
+/// books have, and so are files that hold it, for whoever opens them for `MOST_ENTRIES` in any case. With `found_again`, what is
+/// opened is the desk of these books.
 pub fn opens_again()
-    ensures database { (db : Database) (limit : ℕ) (books : Books) → SaysBooks db books → HasVersion db (Some 3) → length books.history ≤ limit → IsDesks limit db }
-    ensures files { (image : Image) (db : Database) (limit : ℕ) (books : Books) → SaysBooks db books → HasVersion db (Some 3) → length books.history ≤ limit
+    ensures database { (db : Database) (limit : ℕ) (books : Books) → SaysBooks db books → length books.history ≤ limit → IsDesks limit db }
+    ensures files { (image : Image) (db : Database) (limit : ℕ) (books : Books) → SaysBooks db books → length books.history ≤ limit
         → HoldsAlone image db.trees → ∥ IsDesksIn limit image ∥₁ }
+    ensures most { (image : Image) (db : Database) (books : Books) → SaysBooks db books → HoldsAlone image db.trees → ∥ IsDesksIn MOST_ENTRIES image ∥₁ }
 {}
 
 /// Tables that say, each by itself, what a register holds are the desk's and say its content, where the register keeps books

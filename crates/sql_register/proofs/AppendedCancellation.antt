@@ -31,7 +31,7 @@ use Rattle.sql_register.proofs.AppendedHistory.{requested_known, stands_same}
 use Rattle.sql_register.proofs.AppendedRow.{row_moves}
 use Rattle.sql_register.proofs.CauseLemmas.{above, below}
 use Rattle.sql_register.proofs.ContentLemmas.{same_totals}
-use Rattle.sql_register.proofs.FrameLemmas.{balance_spared, cash_spared, total_spared, register_spared, sent_spared}
+use Rattle.sql_register.proofs.FrameLemmas.{balance_spared, cash_spared, register_spared, sent_spared, total_spared, version_spared}
 use Rattle.desk_register.proofs.RegisteredLemmas.{names_one}
 
 of_type_some : (mt k : ℕ) (o : Option Instructed) → is_none (if_of_type mt k o) ≡ false → if_of_type mt k o ≡ Some k
@@ -109,6 +109,7 @@ module _ (old d1 : Database) (sender : List ℕ) (order : CancelOrder) (reply : 
               ∙ ap (λ o. with_request o before.standing) (sym asked)
               ∙ (λ j n. stands_same before entry reply desk.instructions refl n j);
           messages = sent_spared d1 new 8 9 stood.others (inr (omega arith)) ∙ row.messages;
+          version = version_spared d1 new 8 9 stood.others (inr (omega arith)) ∙ row.version;
           within = added.within;
           formed = added.formed;
           short = added.short;

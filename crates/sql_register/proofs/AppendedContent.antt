@@ -21,6 +21,7 @@ use Rattle.sql_register.specs.RowsSaid.{kept_in, sent_in}
 use Rattle.sql_register.proofs.AppendedHistory.{instructions_more, stands_more}
 use Rattle.sql_register.proofs.AppendedTotals.{TotalsMore, registered_more, totals_more}
 use Rattle.sql_register.proofs.ContentLemmas.{by_parts}
+use Rattle.sql_register.proofs.FrameLemmas.{same_version}
 use Rattle.desk_register.proofs.AddsUpLemmas.{longer}
 use Rattle.desk_register.proofs.RegisteredLemmas.{IsFounded, founded}
 use Rattle.sql_register.proofs.SaidLemmas.{register_again}
@@ -37,6 +38,7 @@ pub record TakesEntry (old new : Database) (entry : Entry) (reply : Reply) : Typ
   pub standings : AreStandings new
   pub standing_is : standing_in new ≡ (appended entry reply (content_in old)).standing
   pub messages : new.trees 9 ≡ old.trees 9
+  pub version : new.trees 10 ≡ old.trees 10
   pub within : length (content_in old).register + 1 < 1_000_000_000
   pub formed : IsWellFormed entry
   pub short : HasShortNumbers reply
@@ -50,6 +52,7 @@ takes_entry old new entry reply room desk can takes =
     by_parts _ _ _ _ _ _ _ _ _ _ (ap (map kept_in) takes.entries.rows ∙ register_again 0 (with_entry before.register entry reply)) takes.standing_is takes.positions takes.cash (ap (map sent_in) takes.messages) in
     let keeps : Keeps new more = record {
       schema = takes.schema;
+      version = same_version old new takes.version desk.version;
       amounts = takes.amounts;
       entries = takes.entries;
       standings = takes.standings;

@@ -23,7 +23,7 @@ use Rattle.sql_register.proofs.AppendedContent.{takes_entry}
 use Rattle.sql_register.proofs.AppendedHistory.{none_last}
 use Rattle.sql_register.proofs.AppendedRow.{row_moves}
 use Rattle.sql_register.proofs.ContentLemmas.{same_totals}
-use Rattle.sql_register.proofs.FrameLemmas.{balance_spared, cash_spared, total_spared, register_spared, sent_spared}
+use Rattle.sql_register.proofs.FrameLemmas.{balance_spared, cash_spared, register_spared, sent_spared, total_spared, version_spared}
 
 module _ (old d1 : Database) (i : Instructed) (reply : Reply) (room : ℕ) (desk : IsDesk old) where
   abbrev entry : Entry
@@ -64,6 +64,7 @@ module _ (old d1 : Database) (i : Instructed) (reply : Reply) (room : ℕ) (desk
           standings = stood.kept;
           standing_is = stood.standings_are ∙ ap (λ s. standing_at s last fresh_standing) (same_standing_in d1 old row.standings);
           messages = sent_spared d1 new 8 9 stood.others (inr (omega arith)) ∙ row.messages;
+          version = version_spared d1 new 8 9 stood.others (inr (omega arith)) ∙ row.version;
           within = added.within;
           formed = added.formed;
           short = added.short;

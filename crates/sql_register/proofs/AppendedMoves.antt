@@ -25,7 +25,7 @@ use Rattle.sql_register.specs.Content.{content_in}
 use Rattle.sql_register.specs.Holds.{Becomes, IsDesk, outstanding_in, paid_in_table}
 use Rattle.sql_register.proofs.AppendedAmounts.{cash_still, moves_cash, moves_securities, named_isin, no_cash, no_securities, outstanding_before, outstanding_still, paid_before, paid_still, positions_still}
 use Rattle.sql_register.proofs.AppendedRow.{OnlyMoves, row_amounts, row_becomes, row_moves}
-use Rattle.sql_register.proofs.FrameLemmas.{register_spared, state_spared, sent_spared}
+use Rattle.sql_register.proofs.FrameLemmas.{register_spared, sent_spared, state_spared, version_spared}
 
 nothing_if : (b : Bool) → quantity_if b 0 ≡ 0
 nothing_if true = refl
@@ -40,6 +40,7 @@ module _ (d1 d2 new : Database) (first : SparesOthers 0 6 d1 d2) (second : Spare
   moves_still old moves = record {
     standings = state_spared d2 new 0 6 second (inr (omega arith)) ∙ state_spared d1 d2 0 6 first (inr (omega arith)) ∙ moves.standings;
     messages = sent_spared d2 new 0 6 second (inr (omega arith)) ∙ sent_spared d1 d2 0 6 first (inr (omega arith)) ∙ moves.messages;
+    version = version_spared d2 new 0 6 second (inr (omega arith)) ∙ version_spared d1 d2 0 6 first (inr (omega arith)) ∙ moves.version;
   }
 
 module _ (old d1 : Database) (m : Movement) (reply : Reply) (room : ℕ) (desk : IsDesk old) where

@@ -22,7 +22,7 @@ use Rattle.sql_register.proofs.AppendedAmounts.{CashMoves, SecuritiesMove, alone
 use Rattle.sql_register.proofs.AppendedContent.{takes_entry}
 use Rattle.sql_register.proofs.AppendedHistory.{stands_same}
 use Rattle.sql_register.proofs.ContentLemmas.{same_totals}
-use Rattle.sql_register.proofs.FrameLemmas.{balance_spared, cash_spared, total_spared, state_spared, sent_spared}
+use Rattle.sql_register.proofs.FrameLemmas.{balance_spared, cash_spared, total_spared, state_spared, sent_spared, version_spared}
 
 -- it instructs nothing, and asks to cancel nothing
 pub record StandsNowhere (e : Entry) : Type 0 where
@@ -45,6 +45,7 @@ alone_nowhere (Run reference day rule) is = record { nothing = refl; request = �
 pub record OnlyMoves (old new : Database) : Type 0 where
   pub standings : new.trees 8 ≡ old.trees 8
   pub messages : new.trees 9 ≡ old.trees 9
+  pub version : new.trees 10 ≡ old.trees 10
 
 pub row_becomes : (old new : Database) (e : Entry) (reply : Reply) (room : ℕ) → IsDesk old → StandsNowhere e → CanAppend room e reply (content_in old) → new.schema ≡ desk_schema
     → AreEntries new (with_entry (content_in old).register e reply) → AreAmounts new → SecuritiesMove old new e → CashMoves old new e → OnlyMoves old new → length (content_in old).register + 1 < 1_000_000_000 → IsWellFormed e → HasShortNumbers reply → Becomes new (appended e reply (content_in old))
@@ -62,6 +63,7 @@ row_becomes old new e reply room desk nowhere can schema entries amounts securit
       standings = same_standings old new (sym same.standings) desk.standings;
       standing_is = same_standing_in new old same.standings ∙ (λ k n. (noted n ∙ stands_same before e reply desk.instructions nowhere.nothing n) k);
       messages = same.messages;
+      version = same.version;
       within = within;
       formed = formed;
       short = short;
@@ -80,6 +82,7 @@ module _ (old new : Database) (e : Entry) (reply : Reply) (added : RowAdded old 
   row_moves = record {
     standings = state_spared old new 6 8 added.spares (inr (omega arith));
     messages = sent_spared old new 6 8 added.spares (inr (omega arith));
+    version = version_spared old new 6 8 added.spares (inr (omega arith));
   }
 
   pub alone_becomes : (room : ℕ) → IsDesk old → IsAlone e → CanAppend room e reply (content_in old) → new.schema ≡ desk_schema → Becomes new (appended e reply (content_in old))

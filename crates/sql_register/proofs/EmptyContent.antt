@@ -19,7 +19,8 @@ use Rattle.desk_register.specs.Changes.{empty_content}
 use Rattle.desk_register.specs.Looked.{IsPaid}
 use Rattle.desk_rules.specs.declared.history.entry.Instructed.{Instructed}
 use Rattle.desk_rules.specs.History.{instruction_at}
-use Rattle.sql_tables.specs.Version.{SetsVersion}
+use Rattle.sql_tables.specs.Version.{HasVersion, SetsVersion}
+use Rattle.sql_tables.specs.declared.version.TheConstants.{VERSION}
 use Rattle.sql_rows.proofs.SentTableLemmas.{none_sent}
 use Rattle.sql_rows.proofs.StandingLemmas.{no_standings}
 use Rattle.sql_tables.specs.Control.{Begins, begin_text}
@@ -102,9 +103,10 @@ module _ (db : Database) (empty : AreEmpty db) where
   nothing_paid : (ccy : Ccy) → paid_in_table db ccy ≡ None
   nothing_paid ccy = empty_recorded db no_amounts Total (codes "currency") (letters_of ccy)
 
-  keeps : Keeps db empty_content
-  keeps = record {
+  keeps : HasVersion db (Some VERSION) → Keeps db empty_content
+  keeps version = record {
     schema = empty.schema;
+    version = version;
     amounts = empty_amounts db no_amounts;
     entries = no_entries db empty.register;
     standings = (no_standings db empty.states).0;
@@ -128,8 +130,8 @@ module _ (db : Database) (empty : AreEmpty db) where
     named = λ account. refl;
   }
 
-  pub empty_becomes : Becomes db empty_content
-  empty_becomes = record { desk = subst (Keeps db) (sym content) keeps; content_is = content }
+  pub empty_becomes : HasVersion db (Some VERSION) → Becomes db empty_content
+  empty_becomes version = record { desk = subst (Keeps db) (sym content) (keeps version); content_is = content }
 
 -- what was made, with its version, is empty
 pub version_empty : (made new : Database) → IsEmpty desk_schema made → new.schema ≡ desk_schema → SetsVersion made new 3 → AreEmpty new

@@ -1,5 +1,5 @@
 -- One message more: the other tables say what they said.
-use Rattle.std.proofs.Common.{◌≡◌, inl, refl, sym, ap, subst, ◌∙◌, ℕ, ◌+◌, ◌<◌, ◌^◌, List, [], ◌∷◌, map, arith}
+use Rattle.std.proofs.Common.{◌≡◌, inl, inr, refl, sym, ap, subst, ◌∙◌, ℕ, ◌+◌, ◌<◌, ◌^◌, List, [], ◌∷◌, map, arith}
 use Rattle.std.specs.Int.{w64, cast_signed, cast_unsigned}
 use Rattle.std.specs.List.{AllByRecursion}
 use Rattle.std.proofs.lemmas.Int.{of_z-to_z}
@@ -15,7 +15,7 @@ use Rattle.sql_rows.proofs.StandingLemmas.{same_standings, same_standing_in}
 use Rattle.sql_register.specs.Content.{content_in}
 use Rattle.sql_register.specs.Holds.{Becomes, IsDesk, Keeps}
 use Rattle.sql_register.specs.RowsSaid.{kept_in, sent_in}
-use Rattle.sql_register.proofs.FrameLemmas.{balance_spared, cash_spared, total_spared, register_spared, state_spared}
+use Rattle.sql_register.proofs.FrameLemmas.{balance_spared, cash_spared, register_spared, same_version, state_spared, total_spared, version_spared}
 use Rattle.sql_register.proofs.ContentLemmas.{by_parts, same_cash, same_positions, same_sums, same_total_parts, same_totals}
 
 about_again : (about : ℕ) → about < 2 ^ 64 → cast_unsigned w64 (cast_signed w64 about) ≡ about
@@ -48,6 +48,7 @@ module _ (old new : Database) (message : Sent) (desk : IsDesk old) (adds : Adds 
   keeps : (schema : new.schema ≡ desk_schema) → Keeps new (with_sent message (content_in old))
   keeps schema = record {
     schema = schema;
+    version = same_version old new (version_spared old new 9 10 adds.others (inr (omega arith))) desk.version;
     amounts = same_amounts old new amounts desk.amounts;
     entries = same_entries old new (content_in old).register register_kept desk.entries;
     standings = same_standings old new (sym state_kept) desk.standings;

@@ -17,7 +17,7 @@ use Rattle.sql_tables.specs.Schema.{desk_schema}
 use Rattle.sql_register.specs.Content.{content_in}
 use Rattle.sql_register.specs.Holds.{Becomes, IsDesk, Keeps}
 use Rattle.sql_register.specs.RowsSaid.{kept_in, sent_in}
-use Rattle.sql_register.proofs.FrameLemmas.{balance_spared, cash_spared, total_spared, register_spared, sent_spared}
+use Rattle.sql_register.proofs.FrameLemmas.{balance_spared, cash_spared, register_spared, same_version, sent_spared, total_spared, version_spared}
 use Rattle.sql_register.proofs.ContentLemmas.{by_parts, same_cash, same_positions, same_sums, same_total_parts, same_totals}
 
 -- the content in which instructions stand so
@@ -34,6 +34,7 @@ standings_alone old new standing desk stood schema instructions stands =
     by_parts _ _ _ _ _ _ _ _ _ _ (ap (map kept_in) register) stood.standings_are (same_positions old new amounts) (same_cash old new amounts) (ap (map sent_in) messages) in
     let keeps : Keeps new (standing_so (content_in old) standing) = record {
       schema = schema;
+      version = same_version old new (version_spared old new 8 9 stood.others (inr (omega arith))) desk.version;
       amounts = same_amounts old new amounts desk.amounts;
       entries = same_entries old new (content_in old).register register desk.entries;
       standings = stood.kept;

@@ -26,7 +26,7 @@ use Rattle.desk_register.specs.RegisteredOnce.{AreRegisteredOnce, IsOfRegistered
 use Rattle.sql_register.specs.RowsSaid.{kept_in, sent_in}
 use Rattle.sql_register.specs.Settling.{AmountsSo, Fares, cash_then, positions_then}
 use Rattle.desk_register.proofs.AddsUpLemmas.{apart, cash_elsewhere, elsewhere, one_of, pay_less, pay_more, put_less, put_more}
-use Rattle.sql_register.proofs.FrameLemmas.{register_spared, state_spared, sent_spared}
+use Rattle.sql_register.proofs.FrameLemmas.{register_spared, same_version, sent_spared, state_spared, version_spared}
 use Rattle.sql_register.proofs.ContentLemmas.{by_parts}
 use Rattle.desk_register.proofs.OnceLemmas.{sum_with_less, sum_with_more}
 
@@ -157,6 +157,7 @@ module _ (old new : Database) (position : Positions) (cash : CashBalances) (desk
   keeps : new.schema ≡ desk_schema → SumsStay (content_in old) position cash → Keeps new (balances_so (content_in old) position cash)
   keeps schema stay = record {
     schema = schema;
+    version = same_version old new (version_spared old new 0 6 so.others (inr (omega arith))) desk.version;
     amounts = so.kept;
     entries = same_entries old new (content_in old).register register_kept desk.entries;
     standings = same_standings old new (sym state_kept) desk.standings;

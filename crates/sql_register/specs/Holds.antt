@@ -21,6 +21,8 @@ use Rattle.sql_entries.specs.Shown.{HaveShortNumbers}
 use Rattle.sql_rows.specs.Messages.{AreSent, IsSendable}
 use Rattle.sql_rows.specs.Standings.{AreStandings}
 use Rattle.sql_tables.specs.Schema.{desk_schema}
+use Rattle.sql_tables.specs.Version.{HasVersion}
+use Rattle.sql_tables.specs.declared.version.TheConstants.{VERSION}
 use Rattle.sql_register.specs.Content.{content_in}
 use Rattle.desk_register.specs.RegisteredOnce.{AreRegisteredOnce}
 
@@ -42,9 +44,11 @@ pub record AreTotals (db : Database) (content : Content) : Type 0 where
   pub no_stranger : (account isin : List ℕ) → owner_of (history_of content) account ≡ None → content.position account isin ≡ 0
   pub no_stranger_pays : (bic : List ℕ) (ccy : Ccy) → is_participant (history_of content) bic ≡ false → content.cash bic ccy ≡ 0
 
--- Each table says what a content has: entries and messages in their order, where each instruction stands, the amounts.
+-- The tables are of this version, and each says what a content has: entries and messages in their order, where each instruction
+-- stands, the amounts.
 pub record Keeps (db : Database) (content : Content) : Type 0 where
   pub schema : db.schema ≡ desk_schema
+  pub version : HasVersion db (Some VERSION)
   pub amounts : AreAmounts db
   pub entries : AreEntries db content.register
   pub standings : AreStandings db

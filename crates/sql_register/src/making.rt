@@ -1,7 +1,5 @@
 //! A register is made in a database that has no table, or over tables that are a desk's.
-ghost use Rattle.sql_tables.specs.declared.version.TheConstants.{VERSION};
-ghost use Rattle.sql_tables.specs.Version.{HasVersion};
-ghost use Rattle.std.specs.Prelude.{None, Some, ◌≡◌, ◌≤◌, [], false, IsTrue, IfErr, IfOk, OnErr, OnOk};
+ghost use Rattle.std.specs.Prelude.{None, ◌≡◌, ◌≤◌, [], false, IsTrue, IfErr, IfOk, OnErr, OnOk};
 ghost use Rattle.sqlite.specs.State.{HasCleanDisk};
 ghost use Rattle.sqlite.specs.Held.{state};
 ghost use Rattle.sqlite.specs.Steps.{over_memory};
@@ -80,7 +78,6 @@ impl<S: Alter + Drop> SqlRegister<S> {
         requires open { HasCleanDisk (state S.Store conn) → IsTrue (state S.Store conn).is_open }
         ensures empty { IfOk result (λ r. HasCleanDisk (state S.Store r.connection) → (shown (state S.Store r.connection) r.stage r.room).content ≡ empty_content) }
         ensures desk { IfOk result (λ r. HasCleanDisk (state S.Store r.connection) → Becomes (tables S.Store r.connection) empty_content) }
-        ensures version { IfOk result (λ r. HasCleanDisk (state S.Store r.connection) → HasVersion (tables S.Store r.connection) (Some VERSION)) }
         ensures sure { IfOk result (λ r. HasCleanDisk (state S.Store r.connection) → (shown (state S.Store r.connection) r.stage r.room).is_sure) }
         ensures limit { IfOk result (λ r. r.room ≡ limit) }
         ensures stage { IfOk result (λ r. r.stage ≡ Stage.Idle) }

@@ -23,7 +23,7 @@ returns-in-Ok-clause-opened g c =
       is_open = t.sure clean;
       settled = t.settled clean;
       closed = t.closed clean;
-      audited = nothing_audited (state g.S.Store tables.connection).now c.args.limit content c.new-in-Ok.ensures.empty (t.desk clean) (t.version clean);
+      audited = nothing_audited (state g.S.Store tables.connection).now c.args.limit content c.new-in-Ok.ensures.empty (t.desk clean);
     })
 
 pub returns-in-Ok-clause-which : goal.returns-in-Ok-clause-which

@@ -1,9 +1,7 @@
-use Rattle.std.proofs.Common.{◌∙◌, ap, sym, subst, Some}
+use Rattle.std.proofs.Common.{◌∙◌, ap, sym, subst}
 use Rattle.sqlite.specs.Held.{state}
 use Rattle.sqlite.specs.State.{HasCleanDisk}
 use Rattle.desk_register.specs.Changes.{empty_content}
-use Rattle.sql_tables.specs.declared.version.TheConstants.{VERSION}
-use Rattle.sql_tables.specs.Version.{HasVersion}
 use Rattle.sql_tables.specs.Ends.{ForCause}
 use Rattle.sql_tables.proofs.CallLemmas.{later_then}
 use Rattle.sql_tables.proofs.MakingCauses.{caused_on}
@@ -33,8 +31,7 @@ returns-clause-made g c clean is_open blank =
     record {
       is_open = done.is_open;
       settled = done.now ∙ sym done.committed;
-      empty = subst (λ d. Becomes d empty_content) (sym done.now) (empty_becomes s3.now (version_empty s2.now s3.now made.empty stays.schema set));
-      version = subst (λ d. HasVersion d (Some VERSION)) (sym done.now) set.version;
+      empty = subst (λ d. Becomes d empty_content) (sym done.now) (empty_becomes s3.now (version_empty s2.now s3.now made.empty stays.schema set) set.version);
       mode = done.mode;
       marks = done.marks;
     }

@@ -44,7 +44,7 @@ returns-in_err-has_version-clause-exact g c clean is_open honest sure content au
 
 pub returns-then-not-branch-clause-exact : goal.returns-then-not-branch-clause-exact
 returns-then-not-branch-clause-exact g c clean is_open honest sure content audited =
-    absurd (both_ways _ c.if-not-branch.true (c.in_ok-has_version.ensures.all clean is_open audited.becomes.desk.schema audited.version))
+    absurd (both_ways _ c.if-not-branch.true (c.in_ok-has_version.ensures.all clean is_open audited.becomes.desk.schema audited.becomes.desk.version))
 
 pub returns-clause-exact : goal.returns-clause-exact
 returns-clause-exact g c = λ clean is_open honest sure content audited.

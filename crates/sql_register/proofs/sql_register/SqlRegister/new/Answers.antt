@@ -1,10 +1,8 @@
-use Rattle.std.proofs.Common.{◌≡◌, ◌∙◌, Some, IsTrue, false, refl, subst, sym}
+use Rattle.std.proofs.Common.{◌≡◌, ◌∙◌, IsTrue, false, refl, subst, sym}
 use Rattle.sqlite.specs.Held.{state}
 use Rattle.sqlite.specs.State.{HasCleanDisk}
 use Rattle.desk_register.specs.Changes.{empty_content}
 use Rattle.sql_tables.specs.Ends.{IsLater}
-use Rattle.sql_tables.specs.Version.{HasVersion}
-use Rattle.sql_tables.specs.declared.version.TheConstants.{VERSION}
 use Rattle.sql_register.specs.Content.{content_in}
 use Rattle.sql_register.specs.Holds.{Becomes}
 use Rattle.sql_register.specs.Made.{IsMade}
@@ -32,13 +30,6 @@ returns-in-Ok-clause-desk g c =
     let s1 = state g.S.Store c.make.new.conn in
     let made : HasCleanDisk s1 → IsMade s1 = λ clean. c.in-Ok.ensures.made clean (c.requires.open (was_clean s0 s1 c.in-Ok.ensures.later clean)) (c.if-not-has_no_table.ensures.some refl) in
     subst (λ k. HasCleanDisk (state g.S.Store k) → Becomes (state g.S.Store k).now empty_content) (sym c.over.ensures.connection) (λ clean. (made clean).empty)
-
-pub returns-in-Ok-clause-version : goal.returns-in-Ok-clause-version
-returns-in-Ok-clause-version g c =
-    let s0 = state g.S.Store c.args.conn in
-    let s1 = state g.S.Store c.make.new.conn in
-    let made : HasCleanDisk s1 → IsMade s1 = λ clean. c.in-Ok.ensures.made clean (c.requires.open (was_clean s0 s1 c.in-Ok.ensures.later clean)) (c.if-not-has_no_table.ensures.some refl) in
-    subst (λ k. HasCleanDisk (state g.S.Store k) → HasVersion (state g.S.Store k).now (Some VERSION)) (sym c.over.ensures.connection) (λ clean. (made clean).version)
 
 pub returns-in-Ok-clause-sure : goal.returns-in-Ok-clause-sure
 returns-in-Ok-clause-sure g c =
