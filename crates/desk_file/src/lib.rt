@@ -2,8 +2,9 @@
 //!
 //! There is one way in. `adopt` takes a connection over, and `open_file` opens a file: a database that has no table gets the
 //! desk's; one that is that of an accepted history is opened, and its content told by contract; any other is refused, by an
-//! `OpenFault` with its number. What is opened is a `MirroredRegister`; `adopt_tables` and `open_tables` keep its tables
-//! alone. Begin with specs/Opened.antt, then `opening.rt`.
+//! `OpenFault` with its number, and none of these is (specs/Desks.antt). What is opened is a `MirroredRegister`; `adopt_tables`
+//! and `open_tables` keep its tables alone. What is not opened is handed back (specs/Left.antt). Begin with
+//! specs/Opened.antt, then `opening.rt`.
 //!
 //! Whether a schema is the desk's, and nothing else, is decided in `schema`: `is_desk` compares it with the outlines of tables
 //! and indexes in `sql_tables`, and `has_desk_tables` says what the rows of such a database are (specs/Forms.antt there).
