@@ -2,6 +2,7 @@
 
 use crate::failure::Failure;
 use desk_file::{has_desk_tables, open_in_order};
+use sql_tables::versions::Version;
 use sqlite::Unknown;
 
 /// Tells of a file whether its schema is the desk's. The file is left as it is, but that a new one is made where there is none.
@@ -19,7 +20,7 @@ pub fn tell_schema(rt: &HostRuntime, path: &str) -> Result<bool, Failure> {
 fn is_ours(rt: &HostRuntime, path: &str) -> Result<bool, Failure> {
     match open_in_order(rt, path, Unknown) {
         Ok(conn) => {
-            let is_ours = has_desk_tables(&conn);
+            let is_ours = has_desk_tables(&conn, Version::Third);
             conn.close()?;
             Ok(is_ours)
         }

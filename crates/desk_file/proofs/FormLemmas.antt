@@ -7,6 +7,7 @@ use Rattle.sqlite.specs.declared.types.Value.{Value}
 use Rattle.sqlite.specs.declared.types.Value.TheVariants.{Null, Int, Real, Text as Words, Blob}
 use Rattle.sqlite.specs.Order.{Row, column, value_cmp}
 use Rattle.sqlite.specs.Ops.{binary}
+use Rattle.sqlite.specs.Schema.{Schema}
 use Rattle.sqlite.specs.State.{State, IsLive}
 use Rattle.sqlite.specs.Table.{Table}
 use Rattle.sqlite.specs.Tree.{Trees, IsAscending, IsTable, rowid}
@@ -21,9 +22,12 @@ use Rattle.sqlite_schema.specs.Names.{is_key}
 use Rattle.sqlite_schema.specs.Rules.{agree, are_present, are_typed, clashes, differ, guards, has_computed, is_of, passes, suits, Obeys}
 use Rattle.sqlite_sql.specs.Ops.{is_null, is_true, from_truth, test}
 use Rattle.sqlite_sql.specs.declared.ops.CompareOp.TheVariants.{Ne}
-use Rattle.sql_tables.specs.Schema.{desk_indexes, desk_schema, desk_tables, balance_table, cash_table, total_table, register_table, state_table, sent_table, version_table}
+use Rattle.sql_tables.specs.Schema.{desk_schema, desk_tables, first_register_table, first_schema, first_version_table, balance_table, cash_table, total_table, register_table, state_table, sent_table, version_table}
 use Rattle.sql_tables.specs.Forms.{AreAllFormed, AreValues, HasForm, MayStand}
 use Rattle.sql_tables.specs.Order.{AreInOrder}
+use Rattle.sql_tables.specs.Versions.{schema_in, AreAllFormedIn}
+use Rattle.sql_tables.specs.declared.versions.Version.{Version}
+use Rattle.sql_tables.specs.declared.versions.Version.TheVariants.{First, Second, Third}
 
 -- ---- one value
 
@@ -137,12 +141,12 @@ formed table (v ∷ vs) plain typed present id =
     let number = numbered v id in
     record { number = number.0; values = vs; is = ap (λ n. n ∷ vs) number.1; each = values (v ∷ vs) table.key 0 table.columns vs plain (λ k. ap (column (v ∷ vs)) (behind k)) typed present }
 
-all_formed : (trees : Trees) (table : Table) → list_all is_plain table.columns ≡ true → (rows : List Row) → AllByRecursion (λ row. passes Datatype desk_schema trees table row ≡ true) rows
-    → AllByRecursion (λ row. passes NotNull desk_schema trees table row ≡ true) rows → AllByRecursion (λ row. IsTrue (is_int (rowid row))) rows → AllByRecursion (HasForm table) rows
-all_formed trees table plain [] typed present ids = tt
-all_formed trees table plain (row ∷ rows) typed present ids = (
+all_formed : (schema : Schema) (trees : Trees) (table : Table) → list_all is_plain table.columns ≡ true → (rows : List Row) → AllByRecursion (λ row. passes Datatype schema trees table row ≡ true) rows
+    → AllByRecursion (λ row. passes NotNull schema trees table row ≡ true) rows → AllByRecursion (λ row. IsTrue (is_int (rowid row))) rows → AllByRecursion (HasForm table) rows
+all_formed schema trees table plain [] typed present ids = tt
+all_formed schema trees table plain (row ∷ rows) typed present ids = (
   formed table row plain (and_parts (are_typed table.key 0 table.columns (drop 1 row)) (has_computed table row) typed.0).0 present.0 ids.0,
-  all_formed trees table plain rows typed.1 present.1 ids.1,
+  all_formed schema trees table plain rows typed.1 present.1 ids.1,
 )
 
 -- ---- two rows
@@ -176,14 +180,14 @@ no_and : (a b : Bool) → (a && b) ≡ false → b ≡ true → a ≡ false
 no_and true b h is = absurd (cc)
 no_and false b h is = refl
 
-module _ (trees : Trees) (table : Table) (i : Index) (has : Has desk_indexes i) (guard : guards i table ≡ true) where
+module _ (schema : Schema) (trees : Trees) (table : Table) (i : Index) (has : Has schema.indexes i) (guard : guards i table ≡ true) where
   abbrev others : List Row
   others = trees table.tree
 
-  unclashed : (rows : List Row) → AllByRecursion (λ row. passes Unique desk_schema trees table row ≡ true) rows → Unclashed i others rows
+  unclashed : (rows : List Row) → AllByRecursion (λ row. passes Unique schema trees table row ≡ true) rows → Unclashed i others rows
   unclashed [] all = tt
   unclashed (row ∷ rows) all =
-      let free = guarded (guards i table) (list_any (clash i row) others) guard (of_all (λ i. not (guards i table && clashes i.order i.columns (trees table.tree) row)) desk_indexes i has all.0) in
+      let free = guarded (guards i table) (list_any (clash i row) others) guard (of_all (λ i. not (guards i table && clashes i.order i.columns (trees table.tree) row)) schema.indexes i has all.0) in
       (none_any (clash i row) others free, unclashed rows all.1)
 
 heads : (i : Index) (x : Row) (xs ys : List Row) → Unclashed i (x ∷ xs) ys → AllByRecursion (λ y. clash i y x ≡ false) ys
@@ -216,36 +220,52 @@ apart i (x ∷ xs) rise ids free = (each_apart i x xs ids.0 ids.1 rise.0 (heads 
 
 -- ---- the tables
 
-module _ (trees : Trees) (obeys : Obeys desk_schema trees) (order : AreInOrder desk_schema trees) where
+module _ (schema : Schema) (trees : Trees) (order : AreInOrder schema trees) where
   abbrev Formed : Table → Type 0
   Formed table = AllByRecursion (HasForm table) (trees table.tree)
 
-  rows_formed : (table : Table) → Has desk_tables table → list_all is_plain table.columns ≡ true → AllByRecursion (λ row. passes Datatype desk_schema trees table row ≡ true) (trees table.tree)
-      → AllByRecursion (λ row. passes NotNull desk_schema trees table row ≡ true) (trees table.tree) → Formed table
-  rows_formed table has plain typed present = all_formed trees table plain (trees table.tree) typed present (order table has).1
+  rows_formed : (table : Table) → Has schema.tables table → list_all is_plain table.columns ≡ true → AllByRecursion (λ row. passes Datatype schema trees table row ≡ true) (trees table.tree)
+      → AllByRecursion (λ row. passes NotNull schema trees table row ≡ true) (trees table.tree) → Formed table
+  rows_formed table has plain typed present = all_formed schema trees table plain (trees table.tree) typed present (order table has).1
 
-  rows_apart : (table : Table) → Has desk_tables table → (i : Index) → Has desk_indexes i → guards i table ≡ true → AllByRecursion (λ row. passes Unique desk_schema trees table row ≡ true) (trees table.tree)
+  rows_apart : (table : Table) → Has schema.tables table → (i : Index) → Has schema.indexes i → guards i table ≡ true → AllByRecursion (λ row. passes Unique schema trees table row ≡ true) (trees table.tree)
       → IsAscending (λ r s. agree i.order i.columns r i.columns s ≡ false) (trees table.tree)
-  rows_apart table has i listed guard unique = apart i (trees table.tree) (order table has).0 (order table has).1 (unclashed trees table i listed guard (trees table.tree) unique)
+  rows_apart table has i listed guard unique = apart i (trees table.tree) (order table has).0 (order table has).1 (unclashed schema trees table i listed guard (trees table.tree) unique)
+
+module _ (trees : Trees) (obeys : Obeys first_schema trees) (order : AreInOrder first_schema trees) where
+  first_formed : AreAllFormedIn First trees
+  first_formed =
+      let typed = obeys.rules Datatype in
+      let present = obeys.rules NotNull in
+      let unique = obeys.rules Unique in
+      let rows = rows_formed first_schema trees order in (
+        record { each = rows first_register_table (inl refl) refl typed.0 present.0; keyed = (rows_apart first_schema trees order first_register_table (inl refl) _ (inl refl) refl unique.0, tt) },
+        (record { each = rows first_version_table (inr (inl refl)) refl typed.1.0 present.1.0; keyed = tt }, tt),
+      )
+
+module _ (trees : Trees) (obeys : Obeys desk_schema trees) (order : AreInOrder desk_schema trees) where
+  rows_of : (table : Table) → Has desk_tables table → list_all is_plain table.columns ≡ true → AllByRecursion (λ row. passes Datatype desk_schema trees table row ≡ true) (trees table.tree)
+      → AllByRecursion (λ row. passes NotNull desk_schema trees table row ≡ true) (trees table.tree) → Formed desk_schema trees order table
+  rows_of = rows_formed desk_schema trees order
 
   pub all_tables_formed : AreAllFormed trees
   all_tables_formed =
       let typed = obeys.rules Datatype in
       let present = obeys.rules NotNull in
       let unique = obeys.rules Unique in (
-        record { each = rows_formed balance_table (inl refl) refl typed.0 present.0; keyed = (rows_apart balance_table (inl refl) _ (inl refl) refl unique.0, tt) },
+        record { each = rows_of balance_table (inl refl) refl typed.0 present.0; keyed = (rows_apart desk_schema trees order balance_table (inl refl) _ (inl refl) refl unique.0, tt) },
         (
-          record { each = rows_formed cash_table (inr (inl refl)) refl typed.1.0 present.1.0; keyed = (rows_apart cash_table (inr (inl refl)) _ (inr (inl refl)) refl unique.1.0, tt) },
+          record { each = rows_of cash_table (inr (inl refl)) refl typed.1.0 present.1.0; keyed = (rows_apart desk_schema trees order cash_table (inr (inl refl)) _ (inr (inl refl)) refl unique.1.0, tt) },
           (
-            record { each = rows_formed total_table (inr (inr (inl refl))) refl typed.1.1.0 present.1.1.0; keyed = (rows_apart total_table (inr (inr (inl refl))) _ (inr (inr (inl refl))) refl unique.1.1.0, tt) },
+            record { each = rows_of total_table (inr (inr (inl refl))) refl typed.1.1.0 present.1.1.0; keyed = (rows_apart desk_schema trees order total_table (inr (inr (inl refl))) _ (inr (inr (inl refl))) refl unique.1.1.0, tt) },
             (
-              record { each = rows_formed register_table (inr (inr (inr (inl refl)))) refl typed.1.1.1.0 present.1.1.1.0; keyed = (rows_apart register_table (inr (inr (inr (inl refl)))) _ (inr (inr (inr (inl refl)))) refl unique.1.1.1.0, tt) },
+              record { each = rows_of register_table (inr (inr (inr (inl refl)))) refl typed.1.1.1.0 present.1.1.1.0; keyed = (rows_apart desk_schema trees order register_table (inr (inr (inr (inl refl)))) _ (inr (inr (inr (inl refl)))) refl unique.1.1.1.0, tt) },
               (
-                record { each = rows_formed state_table (inr (inr (inr (inr (inl refl))))) refl typed.1.1.1.1.0 present.1.1.1.1.0; keyed = tt },
+                record { each = rows_of state_table (inr (inr (inr (inr (inl refl))))) refl typed.1.1.1.1.0 present.1.1.1.1.0; keyed = tt },
                 (
-                  record { each = rows_formed sent_table (inr (inr (inr (inr (inr (inl refl)))))) refl typed.1.1.1.1.1.0 present.1.1.1.1.1.0; keyed = tt },
+                  record { each = rows_of sent_table (inr (inr (inr (inr (inr (inl refl)))))) refl typed.1.1.1.1.1.0 present.1.1.1.1.1.0; keyed = tt },
                   (
-                    record { each = rows_formed version_table (inr (inr (inr (inr (inr (inr (inl refl))))))) refl typed.1.1.1.1.1.1.0 present.1.1.1.1.1.1.0; keyed = tt },
+                    record { each = rows_of version_table (inr (inr (inr (inr (inr (inr (inl refl))))))) refl typed.1.1.1.1.1.1.0 present.1.1.1.1.1.1.0; keyed = tt },
                     tt,
                   ),
                 ),
@@ -257,5 +277,10 @@ module _ (trees : Trees) (obeys : Obeys desk_schema trees) (order : AreInOrder d
 
 -- ---- in the form of a call's clause
 
-pub formed_in : (s : State) → IsLive s → s.now.schema ≡ desk_schema → IsTrue s.is_open → AreInOrder desk_schema s.now.trees → AreAllFormed s.now.trees
-formed_in s live has is_open order = all_tables_formed s.now.trees (subst (λ schema. Obeys schema s.now.trees) has (live is_open).0.obeys) order
+formed_by : (version : Version) (trees : Trees) → Obeys (schema_in version) trees → AreInOrder (schema_in version) trees → AreAllFormedIn version trees
+formed_by First = first_formed
+formed_by Second = all_tables_formed
+formed_by Third = all_tables_formed
+
+pub formed_in : (version : Version) (s : State) → IsLive s → s.now.schema ≡ schema_in version → IsTrue s.is_open → AreInOrder (schema_in version) s.now.trees → AreAllFormedIn version s.now.trees
+formed_in version s live has is_open order = formed_by version s.now.trees (subst (λ schema. Obeys schema s.now.trees) has (live is_open).0.obeys) order

@@ -1,6 +1,7 @@
 -- What was found to be a desk's, once it was looked at.
 use Rattle.std.proofs.Common.{◌≡◌, inr, ℕ, sym, ap, subst, ◌∙◌, IsTrue, Result}
 use Rattle.sqlite.specs.Effect.{Database}
+use Rattle.sqlite.specs.Schema.{Schema}
 use Rattle.sqlite.specs.State.{State, HasCleanDisk}
 use Rattle.sqlite.specs.declared.error.Error.{Error}
 use Rattle.desk_rules.specs.Content.{Content}
@@ -9,7 +10,7 @@ use Rattle.sql_tables.specs.Order.{AreInOrder}
 use Rattle.sql_register.specs.Content.{content_in}
 use Rattle.sql_register.specs.Holds.{Becomes, IsDesk}
 use Rattle.sql_register.specs.Kept.{IsOpenDesk}
-use Rattle.sql_tables.specs.Ends.{IsLook, IsSame}
+use Rattle.sql_tables.specs.Ends.{IsLookIn, IsSame}
 use Rattle.sql_tables.specs.Making.{KeepsCommitted}
 use Rattle.desk_file.specs.Audited.{IsAudited}
 use Rattle.desk_file.specs.Opened.{Finds, KeepAudited, StandsOpen}
@@ -53,5 +54,5 @@ module _ (s0 s1 : State) (open' : StandsOpen s0) (same : IsSame s0 s1) (limit : 
 
 -- ---- what an audit leaves
 
-pub audit_spares : {X : Type 0} (r : Result X Error) (a b : State) → IsLook r a b → (HasCleanDisk b → IsTrue a.is_open → KeepsCommitted a b) → Spares a b
+pub audit_spares : {schema : Schema} {X : Type 0} (r : Result X Error) (a b : State) → IsLookIn schema r a b → (HasCleanDisk b → IsTrue a.is_open → KeepsCommitted a b) → Spares a b
 audit_spares r a b look kept = record { later = look.later; opened = look.opened; kept = λ clean now. kept clean (look.opened clean now) now }

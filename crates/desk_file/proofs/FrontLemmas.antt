@@ -14,17 +14,20 @@ use Rattle.desk_engine.specs.KeptHistory.{CanBeKept, HoldsKept}
 use Rattle.desk_engine.proofs.KeptHistoryLemmas.{can_held, front}
 use Rattle.sql_tables.specs.ByNumber.{has_number, is_above, is_below, HasNoOther, HasOne}
 use Rattle.sql_tables.proofs.ByNumberLemmas.{is_not_above, is_not_below}
-use Rattle.sql_entries.specs.Entries.{row_of, rows_from, values_of, AreEntries}
+use Rattle.sql_entries.specs.Entries.{row_in, rows_in, values_in, AreEntriesIn}
+use Rattle.sql_entries.specs.Told.{CanSay}
+use Rattle.sql_tables.specs.Versions.{register_tree}
+use Rattle.sql_tables.specs.declared.versions.Version.{Version}
 use Rattle.sql_entries.specs.declared.compared.Found.{Found}
 use Rattle.sql_entries.specs.declared.compared.Found.TheVariants.{Nothing, Another, Entry}
 use Rattle.sql_entries.specs.Found.{IsRowOf}
 use Rattle.sql_entries.specs.Shown.{row_if, HasShortNumbers}
 use Rattle.sql_entries.proofs.FormedLemmas.{at_number}
-use Rattle.sql_entries.proofs.RegisterLemmas.{found}
+use Rattle.sql_entries.proofs.RegisterLemmas.{found_in}
 use Rattle.desk_file.specs.declared.audit.register.Step.{Step}
 use Rattle.desk_file.specs.declared.audit.register.Step.TheVariants.{Taken}
 use Rattle.desk_file.specs.declared.audit.register.Step.TheVariants as steps
-use Rattle.desk_file.specs.Reading.{IsRead}
+use Rattle.desk_file.specs.Reading.{AreSaid, IsReadIn}
 use Rattle.desk_file.proofs.WritableFacts.{short}
 
 -- the first entries of a list are held, so many
@@ -49,29 +52,29 @@ ended (x ∷ xs) = ap (λ (zs : List Kept). x ∷ zs) (ended xs)
 
 -- ---- the rows of a list
 
-none_passes : (test : Row → Bool) (last n : ℕ) (xs : List Kept) → n + length xs ≤ last → ((m : ℕ) (kept : Kept) → n < m → m ≤ last → test (row_of m kept.entry kept.reply) ≡ false) → filter test (rows_from n xs) ≡ []
-none_passes test last n [] high fails = refl
-none_passes test last n (x ∷ xs) high fails =
-    ap (λ b. cond b (row_of (n + 1) x.entry x.reply ∷ filter test (rows_from (n + 1) xs)) (filter test (rows_from (n + 1) xs))) (fails (n + 1) x (omega arith) (omega (arith, high)))
-    ∙ none_passes test last (n + 1) xs (omega (arith, high)) (λ m kept low le. fails m kept (omega (arith, low)) le)
+none_passes : (version : Version) (test : Row → Bool) (last n : ℕ) (xs : List Kept) → n + length xs ≤ last → ((m : ℕ) (kept : Kept) → n < m → m ≤ last → test (row_in version m kept.entry kept.reply) ≡ false) → filter test (rows_in version n xs) ≡ []
+none_passes version test last n [] high fails = refl
+none_passes version test last n (x ∷ xs) high fails =
+    ap (λ b. cond b (row_in version (n + 1) x.entry x.reply ∷ filter test (rows_in version (n + 1) xs)) (filter test (rows_in version (n + 1) xs))) (fails (n + 1) x (omega arith) (omega (arith, high)))
+    ∙ none_passes version test last (n + 1) xs (omega (arith, high)) (λ m kept low le. fails m kept (omega (arith, low)) le)
 
-module _ (db : Database) (all : List Kept) (are : AreEntries db all) where
-  pub no_other : HasNoOther (db.trees 6) (length all)
+module _ (version : Version) (db : Database) (all : List Kept) (are : AreEntriesIn version db all) where
+  pub no_other : HasNoOther (db.trees (register_tree version)) (length all)
   no_other = record {
-    above = ap (filter (is_above (length all))) are.rows ∙ none_passes (is_above (length all)) (length all) 0 all (omega arith) (λ m kept low high. is_not_above m (length all) (Null ∷ values_of kept.entry kept.reply) high);
-    below = ap (filter (is_below 1)) are.rows ∙ none_passes (is_below 1) (length all) 0 all (omega arith) (λ m kept low high. is_not_below m (Null ∷ values_of kept.entry kept.reply) low);
+    above = ap (filter (is_above (length all))) are.rows ∙ none_passes version (is_above (length all)) (length all) 0 all (omega arith) (λ m kept low high. is_not_above m (length all) (Null ∷ values_in version kept.entry kept.reply) high);
+    below = ap (filter (is_below 1)) are.rows ∙ none_passes version (is_below 1) (length all) 0 all (omega arith) (λ m kept low high. is_not_below m (Null ∷ values_in version kept.entry kept.reply) low);
   }
 
-  at_number_is : (n : ℕ) → filter (has_number n) (db.trees 6) ≡ row_if (λ (kept : Kept). row_of n kept.entry kept.reply) (kept_at all n)
-  at_number_is n = ap (filter (has_number n)) are.rows ∙ found n all
+  at_number_is : (n : ℕ) → filter (has_number n) (db.trees (register_tree version)) ≡ row_if (λ (kept : Kept). row_in version n kept.entry kept.reply) (kept_at all n)
+  at_number_is n = ap (filter (has_number n)) are.rows ∙ found_in version n all
 
-  no_row : (n : ℕ) → length all ≤ n → filter (has_number (n + 1)) (db.trees 6) ≡ []
+  no_row : (n : ℕ) → length all ≤ n → filter (has_number (n + 1)) (db.trees (register_tree version)) ≡ []
   no_row n past =
       let none : kept_at all (n + 1) ≡ None = ap (kept_at all) (add-one n) ∙ slice_get_past all n past in
-      at_number_is (n + 1) ∙ ap (row_if (λ (kept : Kept). row_of (n + 1) kept.entry kept.reply)) none
+      at_number_is (n + 1) ∙ ap (row_if (λ (kept : Kept). row_in version (n + 1) kept.entry kept.reply)) none
 
-  one_row : (n : ℕ) (kept : Kept) → kept_at all n ≡ Some kept → HasOne (db.trees 6) n (values_of kept.entry kept.reply)
-  one_row n kept at = at_number_is n ∙ ap (row_if (λ (k : Kept). row_of n k.entry k.reply)) at
+  one_row : (n : ℕ) (kept : Kept) → kept_at all n ≡ Some kept → HasOne (db.trees (register_tree version)) n (values_in version kept.entry kept.reply)
+  one_row n kept at = at_number_is n ∙ ap (row_if (λ (k : Kept). row_in version n k.entry k.reply)) at
 
 -- ---- the next row
 
@@ -80,25 +83,30 @@ entry_kept [] n kept at = absurd (cc)
 entry_kept (x ∷ xs) zero kept at = let same : x ≡ kept = cc in ap (λ (k : Kept). Some k.entry) same
 entry_kept (x ∷ xs) (suc n) kept at = entry_kept xs n kept at
 
--- it is the next entry's, which is taken in; or there is none, and no other
-abbrev pub GoesOn : Database → Content → ℕ → List Kept → Step → List Kept → Type 0
-GoesOn db content count held step new =
-    ((step ≡ steps.Nothing) × (held ≡ content.register) × HasNoOther (db.trees 6) count) ⊎ ((step ≡ Taken) × HoldsFront content.register (count + 1) new)
+said_at : (version : Version) (xs : List Kept) (n : ℕ) (kept : Kept) → AreSaid version xs → slice_get xs n ≡ Some kept → CanSay version kept.entry
+said_at version [] n kept all at = absurd (cc)
+said_at version (x ∷ xs) zero kept all at = let same : x ≡ kept = cc in subst (λ (k : Kept). CanSay version k.entry) same all.0
+said_at version (x ∷ xs) (suc n) kept all at = said_at version xs n kept all.1 at
 
-module _ (db : Database) (limit : ℕ) (content : Content) (read : IsRead db limit content) (count : ℕ) (held : List Kept) (holds : HoldsFront content.register count held) (step : Step) (new : Content)
-    (taken : (kept : Kept) → IsRowOf (db.trees 6) (count + 1) kept → HasShortNumbers kept.reply → CanBeKept limit (held ++ kept ∷ []) → (step ≡ Taken) × HoldsKept limit (held ++ kept ∷ []) new)
-    (nothing : (step ≡ steps.Nothing) ↔ (filter (has_number (count + 1)) (db.trees 6) ≡ [])) where
-  ends : held ≡ content.register → GoesOn db content count held step new.register
+-- it is the next entry's, which is taken in; or there is none, and no other
+abbrev pub GoesOn : Version → Database → Content → ℕ → List Kept → Step → List Kept → Type 0
+GoesOn version db content count held step new =
+    ((step ≡ steps.Nothing) × (held ≡ content.register) × HasNoOther (db.trees (register_tree version)) count) ⊎ ((step ≡ Taken) × HoldsFront content.register (count + 1) new)
+
+module _ (version : Version) (db : Database) (limit : ℕ) (content : Content) (read : IsReadIn version db limit content) (count : ℕ) (held : List Kept) (holds : HoldsFront content.register count held) (step : Step) (new : Content)
+    (taken : (kept : Kept) → IsRowOf version (db.trees (register_tree version)) (count + 1) kept → HasShortNumbers kept.reply → CanBeKept limit (held ++ kept ∷ []) → (step ≡ Taken) × HoldsKept limit (held ++ kept ∷ []) new)
+    (nothing : (step ≡ steps.Nothing) ↔ (filter (has_number (count + 1)) (db.trees (register_tree version)) ≡ [])) where
+  ends : held ≡ content.register → GoesOn version db content count held step new.register
   ends is =
       let size : length content.register ≡ count = ap length (sym is) ∙ holds.size in
-      inl (nothing.1 (no_row db content.register read.entries count (omega (arith, size))), is, subst (HasNoOther (db.trees 6)) size (no_other db content.register read.entries))
+      inl (nothing.1 (no_row version db content.register read.entries count (omega (arith, size))), is, subst (HasNoOther (db.trees (register_tree version))) size (no_other version db content.register read.entries))
 
-  goes : (kept : Kept) (more : List Kept) → held ++ kept ∷ more ≡ content.register → GoesOn db content count held step new.register
+  goes : (kept : Kept) (more : List Kept) → held ++ kept ∷ more ≡ content.register → GoesOn version db content count held step new.register
   goes kept more is =
       let here : slice_get content.register count ≡ Some kept = ap (λ (xs : List Kept). slice_get xs count) (sym is) ∙ ap (slice_get (held ++ kept ∷ more)) (sym holds.size) ∙ got_behind held kept more in
       let at : kept_at content.register (count + 1) ≡ Some kept = ap (kept_at content.register) (add-one count) ∙ here in
       let entry : entry_at (history_of content) (count + 1) ≡ Some kept.entry = ap (entry_at (history_of content)) (add-one count) ∙ entry_kept content.register count kept here in
-      let row : IsRowOf (db.trees 6) (count + 1) kept = record { row = one_row db content.register read.entries (count + 1) kept at; formed = formed_at (history_of content) (count + 1) kept.entry read.formed entry } in
+      let row : IsRowOf version (db.trees (register_tree version)) (count + 1) kept = record { row = one_row version db content.register read.entries (count + 1) kept at; formed = formed_at (history_of content) (count + 1) kept.entry read.formed entry; said = said_at version content.register count kept read.said here } in
       let shorts = at_number (λ (k : Kept). HasShortNumbers k.reply) content.register (count + 1) (short limit read.held.books content read.held.keeps (subst AreWellFormed read.held.keeps.tables.history read.formed)) in
       let short_reply : HasShortNumbers kept.reply = subst (λ o. IfSome o (λ (k : Kept). HasShortNumbers k.reply)) at shorts in
       let can = front limit (held ++ kept ∷ []) more (subst (CanBeKept limit) (sym (joined held kept more ∙ is)) (can_held limit content.register content read.held)) in
@@ -113,33 +121,33 @@ module _ (db : Database) (limit : ℕ) (content : Content) (read : IsRead db lim
         },
       )
 
-  pub goes_on : GoesOn db content count held step new.register
+  pub goes_on : GoesOn version db content count held step new.register
   goes_on = rests holds.rest holds.is
     where
-      rests : (rest : List Kept) → held ++ rest ≡ content.register → GoesOn db content count held step new.register
+      rests : (rest : List Kept) → held ++ rest ≡ content.register → GoesOn version db content count held step new.register
       rests [] is = ends (sym (ended held) ∙ is)
       rests (kept ∷ more) is = goes kept more is
 
 -- the same of a database as it was found before, and of a register that has the same room
-pub stepped : (d0 d1 : Database) (r0 r1 : ℕ) (content : Content) (count : ℕ) (old new : Content) (step : Step) → d1 ≡ d0 → r1 ≡ r0 → IsRead d0 r0 content → HoldsFront content.register count old.register
-    → ((kept : Kept) → IsRowOf (d1.trees 6) (count + 1) kept → HasShortNumbers kept.reply → CanBeKept r1 (old.register ++ kept ∷ []) → (step ≡ Taken) × HoldsKept r1 (old.register ++ kept ∷ []) new)
-    → (step ≡ steps.Nothing) ↔ (filter (has_number (count + 1)) (d1.trees 6) ≡ []) → GoesOn d0 content count old.register step new.register
-stepped d0 d1 r0 r1 content count old new step same room read holds taken nothing =
-    let read1 : IsRead d1 r1 content = subst (λ (d : Database). IsRead d r1 content) (sym same) (subst (λ r. IsRead d0 r content) (sym room) read) in
-    subst (λ (d : Database). GoesOn d content count old.register step new.register) same (goes_on d1 r1 content read1 count old.register holds step new taken nothing)
+pub stepped : (version : Version) (d0 d1 : Database) (r0 r1 : ℕ) (content : Content) (count : ℕ) (old new : Content) (step : Step) → d1 ≡ d0 → r1 ≡ r0 → IsReadIn version d0 r0 content → HoldsFront content.register count old.register
+    → ((kept : Kept) → IsRowOf version (d1.trees (register_tree version)) (count + 1) kept → HasShortNumbers kept.reply → CanBeKept r1 (old.register ++ kept ∷ []) → (step ≡ Taken) × HoldsKept r1 (old.register ++ kept ∷ []) new)
+    → (step ≡ steps.Nothing) ↔ (filter (has_number (count + 1)) (d1.trees (register_tree version)) ≡ []) → GoesOn version d0 content count old.register step new.register
+stepped version d0 d1 r0 r1 content count old new step same room read holds taken nothing =
+    let read1 : IsReadIn version d1 r1 content = subst (λ (d : Database). IsReadIn version d r1 content) (sym same) (subst (λ r. IsReadIn version d0 r content) (sym room) read) in
+    subst (λ (d : Database). GoesOn version d content count old.register step new.register) same (goes_on version d1 r1 content read1 count old.register holds step new taken nothing)
 
 -- so no row is another's
-pub not_another : (db : Database) (content : Content) (count : ℕ) (held : List Kept) (step : Step) (new : List Kept) → GoesOn db content count held step new → step ≡ steps.Another → ⊥
-not_another db content count held step new (inl none) is = (let e = none.0 in cc)
-not_another db content count held step new (inr taken) is = (let e = taken.0 in cc)
+pub not_another : (version : Version) (db : Database) (content : Content) (count : ℕ) (held : List Kept) (step : Step) (new : List Kept) → GoesOn version db content count held step new → step ≡ steps.Another → ⊥
+not_another version db content count held step new (inl none) is = (let e = none.0 in cc)
+not_another version db content count held step new (inr taken) is = (let e = taken.0 in cc)
 
-pub taken_on : (db : Database) (content : Content) (count : ℕ) (held : List Kept) (step : Step) (new : List Kept) → GoesOn db content count held step new → step ≡ Taken → HoldsFront content.register (count + 1) new
-taken_on db content count held step new (inl none) is = absurd (let e = none.0 in cc)
-taken_on db content count held step new (inr taken) is = taken.1
+pub taken_on : (version : Version) (db : Database) (content : Content) (count : ℕ) (held : List Kept) (step : Step) (new : List Kept) → GoesOn version db content count held step new → step ≡ Taken → HoldsFront content.register (count + 1) new
+taken_on version db content count held step new (inl none) is = absurd (let e = none.0 in cc)
+taken_on version db content count held step new (inr taken) is = taken.1
 
-pub nothing_more : (db : Database) (content : Content) (count : ℕ) (held : List Kept) (step : Step) (new : List Kept) → GoesOn db content count held step new → step ≡ steps.Nothing → (held ≡ content.register) × HasNoOther (db.trees 6) count
-nothing_more db content count held step new (inl none) is = (none.1, none.2)
-nothing_more db content count held step new (inr taken) is = absurd (let e = taken.0 in cc)
+pub nothing_more : (version : Version) (db : Database) (content : Content) (count : ℕ) (held : List Kept) (step : Step) (new : List Kept) → GoesOn version db content count held step new → step ≡ steps.Nothing → (held ≡ content.register) × HasNoOther (db.trees (register_tree version)) count
+nothing_more version db content count held step new (inl none) is = (none.1, none.2)
+nothing_more version db content count held step new (inr taken) is = absurd (let e = taken.0 in cc)
 
 -- ---- what was found is one thing
 

@@ -12,7 +12,8 @@ use Rattle.desk_engine.specs.Accepting.{IsDone}
 use Rattle.sql_tables.specs.declared.fault.AuditFault.{AuditFault}
 use Rattle.sql_tables.specs.declared.fault.AuditFault.TheVariants.{Register, Tables}
 use Rattle.sql_tables.specs.Audits.{of_register, of_tables}
-use Rattle.sql_tables.specs.Ends.{ForCause, HasLooked, IfSound, IsLook}
+use Rattle.sql_tables.specs.Ends.{ForCause, HasLookedIn, IfSoundIn, IsLookIn}
+use Rattle.sqlite.specs.Schema.{Schema}
 use Rattle.sql_tables.proofs.LookLemmas.{cause_after, look_err, look_then}
 use Rattle.desk_file.specs.Taking.{BlamesTaking}
 use Rattle.desk_file.proofs.TakingLemmas.{blame_then}
@@ -51,10 +52,10 @@ module _ (Y : Type 0) {X : Type 0} (fault : AuditFault) (r : Result X AuditFault
       each (Ok x) is = absurd is
       each (Err e) is = ap (λ f. of_register {X = Y} (Err f)) (sym is) ∙ same_register X Y e
 
-  pub look_handed : (a b : State) → IsLook (of_tables {X = Y} (Err fault)) a b → IsLook (of_tables r) a b
-  look_handed a b look = subst (λ t. IsLook t a b) tables_same look
+  pub look_handed : {schema : Schema} (a b : State) → IsLookIn schema (of_tables {X = Y} (Err fault)) a b → IsLookIn schema (of_tables r) a b
+  look_handed {schema = schema} a b look = subst (λ t. IsLookIn schema t a b) tables_same look
 
-  pub look_fell : (a b c : State) → HasLooked a b → IsLook (of_tables {X = Y} (Err fault)) b c → IsLook (of_tables r) a c
+  pub look_fell : {schema : Schema} (a b c : State) → HasLookedIn schema a b → IsLookIn schema (of_tables {X = Y} (Err fault)) b c → IsLookIn schema (of_tables r) a c
   look_fell a b c looked look = look_then tt (of_tables r) a b c looked (look_handed b c look)
 
   pub read_handed : (a b : View) → IsRead (of_register {X = Y} (Err fault)) a b → IsRead (of_register r) a b
@@ -89,16 +90,16 @@ module _ {X : Type 0} (error : Error) (r : Result X AuditFault) (is : IsErrAnd r
       each (Ok x) is = refl
       each (Err f) is = ap (λ f. of_register {X = X} (Err f)) is
 
-  pub look_told : (Y : Type 0) (a b : State) → IsLook {X = Y} (Err error) a b → IsLook (of_tables r) a b
-  look_told Y a b look = subst (λ t. IsLook t a b) (sym tables_told) (look_err error a b look)
+  pub look_told : {schema : Schema} (Y : Type 0) (a b : State) → IsLookIn schema {X = Y} (Err error) a b → IsLookIn schema (of_tables r) a b
+  look_told {schema = schema} Y a b look = subst (λ t. IsLookIn schema t a b) (sym tables_told) (look_err error a b look)
 
-  pub look_told_then : (Y : Type 0) (a b c : State) → HasLooked a b → IsLook {X = Y} (Err error) b c → IsLook (of_tables r) a c
+  pub look_told_then : {schema : Schema} (Y : Type 0) (a b c : State) → HasLookedIn schema a b → IsLookIn schema {X = Y} (Err error) b c → IsLookIn schema (of_tables r) a c
   look_told_then Y a b c looked look = look_then tt (of_tables r) a b c looked (look_told Y b c look)
 
   pub cause_told : (a b : State) → ForCause a b error → IfErr (of_tables r) (ForCause a b)
   cause_told a b cause = subst (λ t. IfErr t (ForCause a b)) (sym tables_told) cause
 
-  pub cause_told_then : (Y : Type 0) (a b c : State) → HasLooked a b → IsLook {X = Y} (Err error) b c → IfSound b c (ForCause b c error) → IfSound a c (IfErr (of_tables r) (ForCause a c))
+  pub cause_told_then : {schema : Schema} (Y : Type 0) (a b c : State) → HasLookedIn schema a b → IsLookIn schema {X = Y} (Err error) b c → IfSoundIn schema b c (ForCause b c error) → IfSoundIn schema a c (IfErr (of_tables r) (ForCause a c))
   cause_told_then Y a b c looked look cause clean is_open has = cause_told a c (cause_after {X = Y} (Err error) a b c looked look.later cause clean is_open has)
 
 -- ---- a fault of the register that an audit tells
@@ -127,8 +128,8 @@ module _ {X : Type 0} (fault : Fault) (r : Result X AuditFault) (is : IsErrAnd r
       each (Ok x) is = absurd is
       each (Err f) is = ap (λ f. of_register {X = X} (Err f)) is
 
-  pub look_before : (a b : State) → HasLooked a b → IsLook (of_tables r) a b
-  look_before a b look = subst (λ t. IsLook t a b) (sym tables_not_told) look
+  pub look_before : {schema : Schema} (a b : State) → HasLookedIn schema a b → IsLookIn schema (of_tables r) a b
+  look_before {schema = schema} a b look = subst (λ t. IsLookIn schema t a b) (sym tables_not_told) look
 
   pub no_cause : (a b : State) → IfErr (of_tables r) (ForCause a b)
   no_cause a b = subst (λ t. IfErr t (ForCause a b)) (sym tables_not_told) tt

@@ -107,13 +107,20 @@ wanted_in image limit (inl empty) = inr (inl (inl (ap length empty)))
 wanted_in image limit (inr held) = inl (held.0.trees, held.2)
 
 module _ {D : Type 0} (g : disk.Ghosts D) (image : Image) (error : Error) where
+  -- what is refused holds nothing that would make it one with a database, or none
+  pub unopened_refused_of : (Wanted : Type 0) → (Wanted → ((db : Trees) × HoldsDatabase image db) ⊎ IsNothing image) → (left : Option (Leftover D g)) (caught : Bool)
+      → (left ≡ None → (error ≡ SqliteFailure CannotOpen) ⊎ ((error ≡ SqliteFailure OutOfMemory) ⊎ (error ≡ SqliteFailure DatabaseBusy)))
+      → (left ≡ None → caught ≡ false) → IfSome left (λ rest. IsTrue caught ↔ (0 < (tally_left rest).caught)) → IfSome left (IsUnopened image error)
+      → IsRefusal (files_fault_for caught error) → IsSomeAnd left (λ rest. IsCleanLeft rest → ¬ Wanted)
+  unopened_refused_of Wanted held None caught unseen uncaught counted it refusal = absurd (unseen_refuses error (unseen refl) (subst (λ b. IsRefusal (files_fault_for b error)) (uncaught refl) refusal))
+  unopened_refused_of Wanted held (Some rest) caught unseen uncaught counted it refusal = λ clean wanted.
+      refused_for (tally_of_files g (it.files.log, it.files.db)) (tally_left rest) it.opened.uncaught _ _ _ _ caught counted error (it.ends clean).0 refusal
+      (subst (λ i. ((db : Trees) × HoldsDatabase i db) ⊎ IsNothing i) (sym it.opened.holds) (held wanted))
+
   pub unopened_refused : (limit : ℕ) (left : Option (Leftover D g)) (caught : Bool) → (left ≡ None → (error ≡ SqliteFailure CannotOpen) ⊎ ((error ≡ SqliteFailure OutOfMemory) ⊎ (error ≡ SqliteFailure DatabaseBusy)))
       → (left ≡ None → caught ≡ false) → IfSome left (λ rest. IsTrue caught ↔ (0 < (tally_left rest).caught)) → IfSome left (IsUnopened image error)
       → IsRefusal (files_fault_for caught error) → IsSomeAnd left (λ rest. IsCleanLeft rest → ¬ IsDesksIn limit image)
-  unopened_refused limit None caught unseen uncaught counted it refusal = absurd (unseen_refuses error (unseen refl) (subst (λ b. IsRefusal (files_fault_for b error)) (uncaught refl) refusal))
-  unopened_refused limit (Some rest) caught unseen uncaught counted it refusal = λ clean desks.
-      refused_for (tally_of_files g (it.files.log, it.files.db)) (tally_left rest) it.opened.uncaught _ _ _ _ caught counted error (it.ends clean).0 refusal
-      (subst (λ i. ((db : Trees) × HoldsDatabase i db) ⊎ IsNothing i) (sym it.opened.holds) (wanted_in image limit desks))
+  unopened_refused limit = unopened_refused_of (IsDesksIn limit image) (wanted_in image limit)
 
   pub unopened_blamed : (left : Option (Leftover D g)) (caught : Bool) → IfSome left (λ rest. IsTrue caught ↔ (0 < (tally_left rest).caught)) → IfSome left (IsUnopened image error)
       → files_fault_for caught error ≡ Storage → IfSome left (λ rest. IsCleanLeft rest → HasFailed rest)
@@ -134,6 +141,10 @@ module _ {D : Type 0} (g : disk.Ghosts D) (image : Image) (error : Error) where
 
 -- ---- files that were opened, whose database is refused then
 
+-- what is shown is the database that they hold
+pub opened_same : (image : Image) (s : State) → Opens s → IsLive s → FindsIn image s → (db : Database) → IsDatabase db → HoldsDatabase image db.trees → s.now ≡ db
+opened_same image s opens live found db is held = opens.clean ∙ same_database s.committed db (live opens.is_open).1 is (found.holds db.trees held)
+
 pub opened_desks : (image : Image) (limit : ℕ) (s : State) → Opens s → IsLive s → FindsIn image s → IsDesksIn limit image → IsDesks limit s.now
 opened_desks image limit s opens live found (inl empty) = inl (ap (λ (d : Database). d.schema) opens.clean ∙ bare)
   where
@@ -142,8 +153,7 @@ opened_desks image limit s opens live found (inl empty) = inl (ap (λ (d : Datab
       | inl held ↦ absurd (omega (arith, held.3.found.present, ap length empty))
       | inr nothing ↦ lists_once (s.committed.trees catalog_tree) s.committed.schema no_schema (live opens.is_open).1.lists (empty_is_sound s.committed.trees nothing.1.1).lists
     ]
-opened_desks image limit s opens live found (inr held) =
-    subst (IsDesks limit) (sym (opens.clean ∙ same_database s.committed held.0 (live opens.is_open).1 held.1 (found.holds held.0.trees held.2))) held.3
+opened_desks image limit s opens live found (inr held) = subst (IsDesks limit) (sym (opened_same image s opens live found held.0 held.1 held.2)) held.3
 
 pub some_faults : (before after last : ℕ) → (before + 1 < 2 ^ 64 → before < after) → before ≤ after → after ≤ last → 0 < last
 some_faults before after last more first second = elim (cases_lt (before + 1) (2 ^ 64)) [ inl few ↦ omega (arith, more few, second) | inr many ↦ omega (arith, many, first, second) ]

@@ -8,7 +8,7 @@ mod FormLemmas
 pub mod FoundLemmas
 mod FrontLemmas
 pub mod GoneLemmas
-mod HandedLemmas
+pub mod HandedLemmas
 pub mod HistoryFacts
 pub mod KeptLemmas
 pub mod LeftLemmas
@@ -28,3 +28,4 @@ pub mod TriedLemmas
 pub mod VersionLemmas
 pub mod WaitingLemmas
 pub mod WritableFacts
+pub mod RegisterTables

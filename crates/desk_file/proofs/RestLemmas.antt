@@ -1,5 +1,5 @@
 -- What the audits of tables presume, of an accepted history; and what they show together.
-use Rattle.std.proofs.Common.{◌≡◌, ◌⊎◌, inl, inr, ℕ, zero, suc, ◌<◌, ◌≤◌, length, map, Option, None, Some, Ok, Err, Result, IfOk, refl, sym, ap, subst, ◌∙◌, arith}
+use Rattle.std.proofs.Common.{◌≡◌, ◌⊎◌, inl, inr, ℕ, zero, suc, ◌<◌, ◌≤◌, List, [], ◌∷◌, length, map, Option, None, Some, Ok, Err, Result, IfOk, refl, sym, ap, subst, ◌∙◌, arith}
 use Rattle.std.proofs.lemmas.List.{length-map}
 use Rattle.std.proofs.lemmas.Option.{slice_get_past}
 use Rattle.sqlite.specs.Effect.{Database}
@@ -18,8 +18,9 @@ use Rattle.sql_register.specs.Holds.{Keeps}
 use Rattle.sql_rows.specs.declared.amounts.key.AmountKey.{AmountKey}
 use Rattle.sql_rows.specs.declared.amounts.key.AmountKey.TheVariants as keys
 use Rattle.sql_rows.specs.Amounts.{amount_at}
-use Rattle.sql_tables.specs.Schema.{desk_schema}
-use Rattle.sql_tables.specs.Version.{HasVersion}
+use Rattle.sql_tables.specs.Versions.{schema_in, SaysVersion}
+use Rattle.sql_tables.specs.declared.versions.Version.{Version}
+use Rattle.sql_tables.specs.declared.versions.Version.TheVariants.{Third}
 use Rattle.sql_rows.specs.Said.{HasNoStranger, IsSaid}
 use Rattle.sql_rows.proofs.TrueLemmas.{true_rows}
 use Rattle.sql_tables.specs.declared.fault.AuditFault.{AuditFault}
@@ -29,9 +30,9 @@ use Rattle.desk_file.specs.declared.audit.register.Reading.TheVariants as readin
 use Rattle.desk_file.specs.declared.audit.rest.Table.{Table}
 use Rattle.desk_file.specs.declared.audit.auditing.Audited.{Audited}
 use Rattle.desk_file.specs.declared.audit.auditing.Audited.TheVariants.{Whole}
-use Rattle.desk_file.specs.Reading.{IsRead}
+use Rattle.desk_file.specs.Reading.{AreSaid, IsReadIn}
 use Rattle.sql_rows.specs.StandingsTold.{StandsWithin}
-use Rattle.desk_file.specs.Audited.{IsAudited, IsFilled, SaysRest}
+use Rattle.desk_file.specs.Audited.{HasRest, HoldsVersion, IsAudited, IsFilled}
 use Rattle.desk_file.specs.Parts.{HasParts}
 use Rattle.desk_file.proofs.ContentFacts.{stands_nowhere, stranger_has_none, stranger_holds_none}
 use Rattle.desk_file.proofs.PartLemmas.{becomes, every}
@@ -56,39 +57,48 @@ no_stranger limit content held = record {
   pays = stranger_has_none limit held.books content held.keeps;
 }
 
-parts : (db : Database) (limit : ℕ) (content : Content) → db.schema ≡ desk_schema → HasVersion db (Some 3) → IsRead db limit content → SaysRest db content → HasParts db content
-parts db limit content schema version read rest = record {
-  schema = schema;
-  version = version;
-  entries = read.entries;
-  standings = rest.standings.kept;
-  standing = rest.standings.each;
-  sent = rest.sent;
-  amounts = rest.amounts.amounts;
-  positions = λ account isin. rest.amounts.said (keys.Balance account isin);
-  cash = λ bic ccy. rest.amounts.said (keys.Cash bic ccy);
-  outstanding = λ isin. rest.amounts.said (keys.Security isin);
-  paid = λ ccy. rest.amounts.said (keys.Currency ccy);
-}
+parts : (db : Database) (limit : ℕ) (content : Content) → HoldsVersion Third db limit content → HasParts db content
+parts db limit content it =
+    let read = it.filled.read in
+    let rest = it.filled.rest in
+    record {
+      schema = it.schema;
+      version = it.says;
+      entries = read.entries;
+      standings = rest.standings.kept;
+      standing = rest.standings.each;
+      sent = rest.sent;
+      amounts = rest.amounts.amounts;
+      positions = λ account isin. rest.amounts.said (keys.Balance account isin);
+      cash = λ bic ccy. rest.amounts.said (keys.Cash bic ccy);
+      outstanding = λ isin. rest.amounts.said (keys.Security isin);
+      paid = λ ccy. rest.amounts.said (keys.Currency ccy);
+    }
 
-pub audited : (db : Database) (limit : ℕ) (content : Content) → limit ≤ MOST_ENTRIES → db.schema ≡ desk_schema → HasVersion db (Some 3) → IsRead db limit content → SaysRest db content → IsAudited db limit content
-audited db limit content few schema version read rest = record {
-  becomes = becomes db limit read.held.books content (parts db limit content schema version read rest) few read.held.keeps (subst AreWellFormed read.held.keeps.tables.history read.formed);
-  held = read.held;
-  formed = read.formed;
-}
+-- what is of version 3 is the desk's
+pub audited : (db : Database) (limit : ℕ) (content : Content) → limit ≤ MOST_ENTRIES → HoldsVersion Third db limit content → IsAudited db limit content
+audited db limit content few it =
+    let read = it.filled.read in
+    record {
+      becomes = becomes db limit read.held.books content (parts db limit content it) few read.held.keeps (subst AreWellFormed read.held.keeps.tables.history read.formed);
+      held = read.held;
+      formed = read.formed;
+    }
+
+pub audited_whole : (db : Database) (limit : ℕ) (content : Content) (r : Result Audited AuditFault) → limit ≤ MOST_ENTRIES → IfOk r (λ found. found ≡ Whole → HoldsVersion Third db limit content) → IfOk r (λ found. found ≡ Whole → IsAudited db limit content)
+audited_whole db limit content (Ok found) few holds = λ whole. audited db limit content few (holds whole)
+audited_whole db limit content (Err fault) few holds = tt
 
 -- what was read of the register, and what the tables beside it say of what it holds then
-pub filled : (d0 d1 : Database) (limit : ℕ) (c1 c2 : Content) → d1 ≡ d0 → c2 ≡ c1 → IsRead d0 limit c1 → SaysRest d1 c1 → IsFilled d0 limit c2
-filled d0 d1 limit c1 c2 same then read rest = subst (IsFilled d0 limit) (sym then) (record { read = read; rest = subst (λ (d : Database). SaysRest d c1) same rest })
+pub filled : (version : Version) (d0 d1 : Database) (limit : ℕ) (c1 c2 : Content) → d1 ≡ d0 → c2 ≡ c1 → IsReadIn version d0 limit c1 → HasRest version d1 c1 → IsFilled version d0 limit c2
+filled version d0 d1 limit c1 c2 same then read rest = subst (IsFilled version d0 limit) (sym then) (record { read = read; rest = subst (λ (d : Database). HasRest version d c1) same rest })
 
--- and that the schema and the version are the desk's
-pub audit_whole : (d0 d1 : Database) (limit : ℕ) (content : Content) (r : Result Audited AuditFault) → limit ≤ MOST_ENTRIES → d1 ≡ d0 → d0.schema ≡ desk_schema → HasVersion d0 (Some 3) → IfOk r (λ found. found ≡ Whole → IsFilled d1 limit content)
-    → IfOk r (λ found. found ≡ Whole → IsAudited d0 limit content)
-audit_whole d0 d1 limit content (Ok found) few same schema version fills = λ whole.
-    let it = subst (λ (d : Database). IsFilled d limit content) same (fills whole) in
-    audited d0 limit content few schema version it.read it.rest
-audit_whole d0 d1 limit content (Err fault) few same schema version fills = tt
+-- and that the schema and the version are so
+pub audit_whole : (version : Version) (d0 d1 : Database) (limit : ℕ) (content : Content) (r : Result Audited AuditFault) → d1 ≡ d0 → d0.schema ≡ schema_in version → SaysVersion version d0 → IfOk r (λ found. found ≡ Whole → IsFilled version d1 limit content)
+    → IfOk r (λ found. found ≡ Whole → HoldsVersion version d0 limit content)
+audit_whole version d0 d1 limit content (Ok found) same schema says fills = λ whole.
+    record { schema = schema; says = says; filled = subst (λ (d : Database). IsFilled version d limit content) same (fills whole) }
+audit_whole version d0 d1 limit content (Err fault) same schema says fills = tt
 
 -- ---- the other way
 
@@ -98,18 +108,26 @@ same_content limit room a b p q register =
     let same = one_content p.books q.books a b p.keeps.tables q.keeps.tables (ap (map (λ (kept : Kept). kept.entry)) register) in
     by_parts a.register b.register a.standing b.standing a.position b.position a.cash b.cash a.sent b.sent register (every a.standing b.standing same.same_standing) same.same_position same.same_cash same.same_sent
 
+all_said : (register : List Kept) → AreSaid Third register
+all_said [] = tt
+all_said (kept ∷ more) = (tt, all_said more)
+
 -- what is audited is read and compared with success
-pub is_filled : (db : Database) (limit : ℕ) (content : Content) → IsAudited db limit content → IsFilled db limit content
-is_filled db limit content audited =
+pub is_third : (db : Database) (limit : ℕ) (content : Content) → IsAudited db limit content → HoldsVersion Third db limit content
+is_third db limit content audited =
     let is : content_in db ≡ content = audited.becomes.content_is in
     let keeps : Keeps db content = subst (Keeps db) is audited.becomes.desk in
     let recorded = said is keeps in
     record {
-      read = record { entries = keeps.entries; held = audited.held; formed = audited.formed };
-      rest = record {
-        standings = record { kept = keeps.standings; each = λ n. ap (λ (c : Content). c.standing n) is };
-        sent = keeps.sent;
-        amounts = record { amounts = keeps.amounts; each = true_rows db content keeps.amounts recorded; said = recorded };
+      schema = keeps.schema;
+      says = keeps.version;
+      filled = record {
+        read = record { entries = keeps.entries; said = all_said content.register; held = audited.held; formed = audited.formed };
+        rest = record {
+          standings = record { kept = keeps.standings; each = λ n. ap (λ (c : Content). c.standing n) is };
+          sent = keeps.sent;
+          amounts = record { amounts = keeps.amounts; each = true_rows db content keeps.amounts recorded; said = recorded };
+        };
       };
     }
   where
@@ -119,14 +137,14 @@ is_filled db limit content audited =
     said is keeps (keys.Security isin) = keeps.totals.outstanding isin
     said is keeps (keys.Currency ccy) = keeps.totals.paid ccy
 
-pub filled_again : (d0 d1 : Database) (limit : ℕ) (content : Content) → d1 ≡ d0 → IsAudited d0 limit content → IsFilled d1 limit content
-filled_again d0 d1 limit content same audited = subst (λ (d : Database). IsFilled d limit content) (sym same) (is_filled d0 limit content audited)
+pub filled_again : (version : Version) (d0 d1 : Database) (limit : ℕ) (content : Content) → d1 ≡ d0 → HoldsVersion version d0 limit content → IsFilled version d1 limit content
+filled_again version d0 d1 limit content same it = subst (λ (d : Database). IsFilled version d limit content) (sym same) it.filled
 
 -- the tables say the rest of what a register holds that took in the same list
-pub rest_again : (d0 d1 : Database) (limit room : ℕ) (held content : Content) → d1 ≡ d0 → HoldsKept room held.register held → held.register ≡ content.register → IsFilled d0 limit content → SaysRest d1 held
-rest_again d0 d1 limit room held content same holds register filled =
+pub rest_again : (version : Version) (d0 d1 : Database) (limit room : ℕ) (held content : Content) → d1 ≡ d0 → HoldsKept room held.register held → held.register ≡ content.register → IsFilled version d0 limit content → HasRest version d1 held
+rest_again version d0 d1 limit room held content same holds register filled =
     let is : held ≡ content = same_content room limit held content holds filled.read.held register in
-    subst (SaysRest d1) (sym is) (subst (λ (d : Database). SaysRest d content) (sym same) filled.rest)
+    subst (HasRest version d1) (sym is) (subst (λ (d : Database). HasRest version d content) (sym same) filled.rest)
 
 -- what is told is one thing
 pub whole_or_stops : (reading : Reading) (n : ℕ) → reading ≡ readings.Whole → reading ≡ Stops n → ⊥

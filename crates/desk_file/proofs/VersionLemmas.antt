@@ -1,5 +1,5 @@
 -- What is read of tables that nobody knows, within a transaction.
-use Rattle.std.proofs.Common.{◌≡◌, ◌∷◌, inl, inr, refl, ap, arith, ◌∙◌, ℕ, List, [], None, Some, Option, IsTrue, Result, Ok, Err, Bool, IsOkAnd, IfOk, IfErr, OnOk, Vec, codes, false, pos, if◌then◌else◌}
+use Rattle.std.proofs.Common.{◌≡◌, ◌≢◌, ◌∷◌, ℤ, IfSome, IsSomeAnd, inl, inr, refl, ap, arith, ◌∙◌, ℕ, List, [], None, Some, Option, IsTrue, Result, Ok, Err, Bool, IsOkAnd, IfOk, IfErr, OnOk, Vec, codes, false, pos, if◌then◌else◌}
 use Rattle.std.proofs.lemmas.Bool.{both_ways}
 use Rattle.std.specs.declared.alloc.Global.{Global}
 use Rattle.sqlite.specs.Clock.{timed}
@@ -28,7 +28,7 @@ use Rattle.sql_tables.specs.Statements.{IsQuery}
 use Rattle.sql_tables.proofs.BlameLemmas.{IsWhole, IsWholeIn, control_caused_in, query_caused}
 use Rattle.sql_tables.proofs.CallLemmas.{later_then}
 use Rattle.sql_tables.proofs.EndLemmas.{execute_fell, execute_opened, later_from, query_fell, query_opened, query_why, show_opened}
-use Rattle.desk_file.specs.OtherVersion.{versions_text, AreOther, SaysOther}
+use Rattle.desk_file.specs.OtherVersion.{versions_text, SaysNumber, SaysOther, TellsVersion}
 use Rattle.desk_file.specs.Spared.{Spares}
 
 -- the text means the same over any tables
@@ -120,11 +120,17 @@ spares_then a b c p q = record {
   kept = λ clean now. q.kept clean now ∙ p.kept (omega (arith, clean, q.later.clean)) (q.opened clean now);
 }
 
--- ---- another version
+-- ---- the version that is told
 
-pub says_other : {S : Type 0} (store : Ghosts S) (db : Database) (asked answered : Held S) → (state store asked).now ≡ db
+pub tells_version : {S : Type 0} (store : Ghosts S) (db : Database) (asked answered : Held S) → (state store asked).now ≡ db
     → (shown : Result (Vec Row Global) Error) → IfOk shown (λ rows. Shown versions_text [] (state store asked) (state store answered) rows.items)
-    → (told : Result Bool Error) → IfOk told (λ says. IsTrue says → IsOkAnd shown (λ rows. AreOther rows.items)) → IfOk told (λ says. IsTrue says → SaysOther store db)
-says_other store db asked answered over shown shows (Err e) tells = tt
-says_other store db asked answered over (Ok rows) shows (Ok says) tells = λ is. record { asked = asked; over = over; answered = answered; rows = rows.items; shown = shows; other = tells is }
-says_other store db asked answered over (Err e) shows (Ok says) tells = λ is. absurd (tells is)
+    → (told : Result (Option ℤ) Error) → IfOk told (λ said. IfSome said (λ number. IsOkAnd shown (λ rows. SaysNumber rows.items number))) → IfOk told (λ said. IfSome said (TellsVersion store db))
+tells_version store db asked answered over shown shows (Err e) tells = tt
+tells_version store db asked answered over shown shows (Ok None) tells = tt
+tells_version store db asked answered over (Ok rows) shows (Ok (Some number)) tells = record { asked = asked; over = over; answered = answered; rows = rows.items; shown = shows; says = tells }
+tells_version store db asked answered over (Err e) shows (Ok (Some number)) tells = absurd tells
+
+-- it is another than this
+pub says_other : {S : Type 0} (store : Ghosts S) (db : Database) (said : Option ℤ) → IfSome said (TellsVersion store db) → IsSomeAnd said (λ number. number ≢ pos 3) → SaysOther store db
+says_other store db None told other = absurd other
+says_other store db (Some number) told other = record { number = number; told = told; other = other }

@@ -16,22 +16,26 @@ use Rattle.sqlite_wal.specs.Recovery.{Image}
 abbrev pub versions_text : List ℕ
 versions_text = codes "SELECT number FROM version LIMIT 2"
 
--- what is shown is one row, which says another number than 3
-pub record AreOther (rows : List Row) : Type 0 where
+-- what is shown is one row, which says a number
+pub record SaysNumber (rows : List Row) (number : ℤ) : Type 0 where
   pub row : Row
-  pub number : ℤ
   pub only : rows ≡ row ∷ []
   pub says : column row 0 ≡ Int number
-  pub other : number ≢ pos 3
 
--- a connection to this database that is asked for its versions shows that
-pub record SaysOther {S : Type 0} (store : Ghosts S) (db : Database) : Type 0 where
+-- a connection to this database that is asked for its versions shows a number
+pub record TellsVersion {S : Type 0} (store : Ghosts S) (db : Database) (number : ℤ) : Type 0 where
   pub asked : Held S
   pub over : (state store asked).now ≡ db
   pub answered : Held S
   pub rows : List Row
   pub shown : Shown versions_text [] (state store asked) (state store answered) rows
-  pub other : AreOther rows
+  pub says : SaysNumber rows number
+
+-- it tells another version than this
+pub record SaysOther {S : Type 0} (store : Ghosts S) (db : Database) : Type 0 where
+  pub number : ℤ
+  pub told : TellsVersion store db number
+  pub other : number ≢ pos 3
 
 -- the same of the database that was found in files, of which this is left
 pub record SaysOtherIn {D : Type 0} {g : disk.Ghosts D} (image : Image) (left : Leftover D g) : Type 0 where

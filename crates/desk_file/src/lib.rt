@@ -37,13 +37,17 @@ mod tables;
 mod taking;
 mod version;
 
-pub use audit::auditing::{Audited, audit as audit_tables};
+pub use audit::auditing::{Audited, audit as audit_tables, audit_version};
 pub use audit::progress::{Progress, Silent};
 pub use audit::rest::Table;
-pub use fault::{Difference, OpenFault};
-pub use files::open_in_order;
+pub use fault::{
+    Difference, OpenFault, fault_of, fault_of_audit, fault_of_files, fault_of_opening,
+};
+pub use files::{is_caught, open_in_order};
 pub use laws::{found_again, is_desk_by_parts, is_live, opens_again};
 pub use mirror::mirrored_register::MirroredRegister;
 pub use opening::{adopt, open_file};
+pub use reopening::{give_up, reopen};
 pub use schema::ours::{has_desk_tables, is_desk};
 pub use tables::{adopt_tables, open_tables};
+pub use version::version_said;

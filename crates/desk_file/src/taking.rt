@@ -1,5 +1,5 @@
 //! A database that was opened is made the desk's, or found to be.
-ghost use Rattle.std.specs.Prelude.{◌≡◌, ◌≤◌, false, IfErr, IfOk, IsTrue, None};
+ghost use Rattle.std.specs.Prelude.{◌≡◌, ◌≢◌, ◌≤◌, pos, false, IfErr, IfOk, IsSomeAnd, IsTrue, None};
 ghost use Rattle.sqlite.specs.Held.{state};
 ghost use Rattle.sqlite.specs.State.{HasCleanDisk};
 ghost use Rattle.memory_register.specs.ListsView.{view_of_lists};
@@ -20,11 +20,29 @@ use crate::audit::auditing::{Audited, audit};
 use crate::audit::progress::Progress;
 use crate::fault::{Difference, OpenFault, fault_of, fault_of_audit};
 use crate::mirror::mirrored_register::MirroredRegister;
-use crate::version::says_other_version;
+use crate::version::version_said;
 use memory_register::ListRegister;
 use sql_register::{SqlRegister, has_no_table};
+use sql_tables::version::VERSION;
 use sqlite::{Alter, Connection};
 use std::alloc::Global;
+
+/// Why a database is refused that says this of its version.
+fn refused_for(said: Option<i64>) -> OpenFault
+    ensures other { result ≡ OpenFault.OtherVersion → IsSomeAnd said (λ number. number ≢ pos 3) }
+    ensures refuses { result ≢ OpenFault.Storage }
+{
+    match said {
+        Some(number) => {
+            if number == VERSION as i64 {
+                OpenFault::NotOurFile(Difference::OtherTables)
+            } else {
+                OpenFault::OtherVersion
+            }
+        }
+        None => OpenFault::NotOurFile(Difference::OtherTables),
+    }
+}
 
 /// Why a database that is not the desk's, in this version, is refused.
 fn refusal<S: Alter>(conn: &mut Connection<S>) -> OpenFault
@@ -32,9 +50,8 @@ fn refusal<S: Alter>(conn: &mut Connection<S>) -> OpenFault
     ensures blame { HasCleanDisk (state S.Store conn.new) → IsTrue (state S.Store conn.old).is_open → (state S.Store conn.old).in_transaction ≡ false → (state S.Store conn.old).step_limit ≡ None → IsBlamed (state S.Store conn.old) (state S.Store conn.new) result }
     ensures other { HasCleanDisk (state S.Store conn.new) → result ≡ OpenFault.OtherVersion → SaysOther S.Store (tables S.Store conn.old) }
 {
-    match says_other_version(conn) {
-        Ok(true) => OpenFault::OtherVersion,
-        Ok(false) => OpenFault::NotOurFile(Difference::OtherTables),
+    match version_said(conn) {
+        Ok(said) => refused_for(said),
         Err(error) => fault_of(&error),
     }
 }

@@ -1,14 +1,13 @@
-//! Whether a database that is not the desk's tells the version of another.
-ghost use Rattle.std.specs.Prelude.{◌≡◌, [], false, Err, IfErr, IfOk, IsOkAnd, IsTrue, OnOk};
+//! Which version a database tells that is not the desk's.
+ghost use Rattle.std.specs.Prelude.{◌≡◌, [], false, Err, IfErr, IfOk, IfSome, IsOkAnd, IsTrue, OnOk};
 ghost use Rattle.sqlite.specs.Held.{state};
 ghost use Rattle.sqlite.specs.State.{HasCleanDisk, Shown};
 ghost use Rattle.sql_tables.specs.Calls.{FailsForCause, tables};
 ghost use Rattle.sql_tables.specs.Control.{Begins};
 ghost use Rattle.sql_tables.specs.Ends.{SaysWhy};
-ghost use Rattle.desk_file.specs.OtherVersion.{versions_text, AreOther, SaysOther};
+ghost use Rattle.desk_file.specs.OtherVersion.{versions_text, SaysNumber, TellsVersion};
 ghost use Rattle.desk_file.specs.Spared.{Spares};
 
-use sql_tables::version::VERSION;
 use sqlite::types::ValueRef;
 use sqlite::{Alter, Connection, Error, Row};
 use sqlite_schema::names::same_name;
@@ -40,46 +39,49 @@ fn has_versions<S: Alter>(conn: &Connection<S>) -> bool {
     ))
 }
 
-/// Whether rows are the one of another version.
-fn are_other(rows: &[Row]) -> bool
-    ensures { IsTrue result → AreOther rows.now }
+/// The number that rows say, which are one; None where they say none.
+fn number_said(rows: &[Row]) -> Option<i64>
+    ensures { IfSome result (SaysNumber rows.now) }
 {
     match rows {
         [row] => match row.get_ref(0) {
-            Ok(ValueRef::Int(number)) => number != VERSION as i64,
-            _ => false,
+            Ok(ValueRef::Int(number)) => Some(number),
+            _ => None,
         },
-        _ => false,
+        _ => None,
     }
 }
 
 /// What shown versions come to. Where none are shown though the transaction is still open, there are none to read; where it was
 /// taken back, memory is wanting or the device failed.
-fn told<S: Alter>(conn: &Connection<S>, shown: Result<Vec<Row>, Error>) -> Result<bool, Error>
-    ensures other { IfOk result (λ says. IsTrue says → IsOkAnd shown (λ rows. AreOther rows.items)) }
+fn told<S: Alter>(
+    conn: &Connection<S>,
+    shown: Result<Vec<Row>, Error>,
+) -> Result<Option<i64>, Error>
+    ensures said { IfOk result (λ said. IfSome said (λ number. IsOkAnd shown (λ rows. SaysNumber rows.items number))) }
     ensures none { IfErr result (λ e. (shown ≡ Err e) × ((state S.Store conn.now).in_transaction ≡ false)) }
 {
     match shown {
-        Ok(rows) => Ok(are_other(&rows)),
+        Ok(rows) => Ok(number_said(&rows)),
         Err(error) => {
             if conn.is_autocommit() {
                 Err(error)
             } else {
-                Ok(false)
+                Ok(None)
             }
         }
     }
 }
 
-/// Whether a database has a table `version` with one row, which says another version. Nothing is committed; a transaction may
-/// be left open. One that has no such table says none.
-pub fn says_other_version<S: Alter>(conn: &mut Connection<S>) -> Result<bool, Error>
+/// The number that the one row of a table `version` says, whatever other tables there are; None where there is no such table, or
+/// no such row. Nothing is committed; a transaction may be left open.
+pub fn version_said<S: Alter>(conn: &mut Connection<S>) -> Result<Option<i64>, Error>
     ensures spares { Spares (state S.Store conn.old) (state S.Store conn.new) }
     ensures blame { HasCleanDisk (state S.Store conn.new) → IsTrue (state S.Store conn.old).is_open → (state S.Store conn.old).in_transaction ≡ false → FailsForCause S.Store conn.old conn.new result }
-    ensures other { HasCleanDisk (state S.Store conn.new) → IfOk result (λ says. IsTrue says → SaysOther S.Store (tables S.Store conn.old)) }
+    ensures said { HasCleanDisk (state S.Store conn.new) → IfOk result (λ said. IfSome said (TellsVersion S.Store (tables S.Store conn.old))) }
 {
     if !has_versions(conn) {
-        return Ok(false);
+        return Ok(None);
     }
     begin(conn)?;
     let shown = versions(conn);

@@ -1,5 +1,5 @@
 -- What the texts show of the rows of `register`.
-use Rattle.std.proofs.Common.{◌≡◌, ◌<◌, ◌==◌, ◌↔◌, ℕ, zero, suc, Bool, false, List, [], ◌∷◌, length, map, filter, get_or, nat_lt, true, codes, refl, sym, ap, subst, ◌∙◌, arith, ℤ, Ok, Err, Result, IfErr, IfOk, IsTrue, Vec}
+use Rattle.std.proofs.Common.{◌≡◌, ◌<◌, ◌==◌, ◌↔◌, ℕ, pos, zero, suc, Bool, false, List, [], ◌∷◌, length, map, filter, get_or, nat_lt, true, codes, refl, sym, ap, subst, ◌∙◌, arith, ℤ, Ok, Err, Result, IfErr, IfOk, IsTrue, Vec}
 use Rattle.std.specs.declared.alloc.Global.{Global}
 use Rattle.std.specs.List.{list_all, AllByRecursion}
 use Rattle.std.specs.List.Sorted.{IsPermutation}
@@ -19,17 +19,23 @@ use Rattle.sqlite_value.specs.declared.value.ValueRef.{ValueRef}
 use Rattle.sqlite_value.specs.declared.value.ValueRef.TheVariants.{Null as unset}
 use Rattle.sqlite_value.specs.Value.{owned}
 use Rattle.sqlite.specs.Listing.{understood}
-use Rattle.sqlite.specs.State.{State, FailsToQuery}
+use Rattle.sqlite.specs.Program.{overlay}
+use Rattle.sqlite.specs.Tree.{Trees}
+use Rattle.sqlite.specs.State.{State, FailsToQuery, Shown}
 use Rattle.sqlite.proofs.Callers.{one_permutation}
 use Rattle.sqlite_tied.specs.Compute.{everything}
 use Rattle.desk_rules.specs.declared.answers.reply.Kept.{Kept}
-use Rattle.sql_tables.specs.Schema.{desk_schema, register_table}
+use Rattle.sql_tables.specs.Schema.{register_table}
 use Rattle.sql_tables.specs.Ends.{ForCause}
-use Rattle.sql_tables.proofs.BlameLemmas.{IsWhole}
-use Rattle.sql_tables.specs.Queries.{equals}
-use Rattle.sql_tables.proofs.ShownLemmas.{IsPlainQuery, plain_caused}
+use Rattle.sql_tables.specs.Versions.{register_tree, schema_in}
+use Rattle.sql_tables.specs.declared.versions.Version.{Version}
+use Rattle.sql_tables.specs.declared.versions.Version.TheVariants.{First, Second, Third}
+use Rattle.sqlite_typing.specs.Types.{accepts_program}
+use Rattle.sql_tables.proofs.BlameLemmas.{IsWholeIn}
+use Rattle.sql_tables.specs.Queries.{equals, plain}
+use Rattle.sql_tables.proofs.ShownLemmas.{IsPlainQueryIn, none_shown, plain_caused, rows_shown}
 use Rattle.sql_tables.specs.Forms.{HasForm}
-use Rattle.sql_entries.specs.Entries.{given, values_of}
+use Rattle.sql_entries.specs.Entries.{given_in, values_in}
 use Rattle.sql_tables.specs.ByNumber.{above, below, has_number, is_above, is_below, HasNoOther, HasOne}
 use Rattle.sql_tables.specs.Plain.{IsPlain}
 use Rattle.sql_tables.specs.Whole.{shown_by}
@@ -62,39 +68,92 @@ names =
     codes "sender" ∷ codes "reference" ∷ codes "kind" ∷ codes "bic" ∷ codes "account" ∷ codes "isin" ∷ codes "unit" ∷ codes "quantity" ∷ codes "currency" ∷ codes "amount" ∷ codes "day" ∷ codes "rule" ∷ codes "mt"
     ∷ codes "settlement" ∷ codes "place" ∷ codes "previous" ∷ codes "status" ∷ codes "reply_mt" ∷ codes "reply" ∷ codes "number" ∷ codes "about" ∷ []
 
-pub reads_at : IsPlainQuery at_text 6 (equals 0 0 ∷ []) columns
+pub reads_at : (version : Version) → IsPlainQueryIn (schema_in version) at_text (register_tree version) (equals 0 0 ∷ []) columns
 unfolding understood everything
-reads_at = record { names = names; is = refl; query = record { selects = refl; plain = (refl, refl); unlisted = refl } }
+reads_at First = record { names = names; is = refl; query = record { selects = refl; plain = (refl, refl); unlisted = refl } }
+reads_at Second = record { names = names; is = refl; query = record { selects = refl; plain = (refl, refl); unlisted = refl } }
+reads_at Third = record { names = names; is = refl; query = record { selects = refl; plain = (refl, refl); unlisted = refl } }
 
-pub reads_above : IsPlainQuery above_text 6 (above ∷ []) (col 1 0 ∷ [])
+pub reads_above : (version : Version) → IsPlainQueryIn (schema_in version) above_text (register_tree version) (above ∷ []) (col 1 0 ∷ [])
 unfolding understood everything
-reads_above = record { names = codes "number" ∷ []; is = refl; query = record { selects = refl; plain = (refl, refl); unlisted = refl } }
+reads_above First = record { names = codes "number" ∷ []; is = refl; query = record { selects = refl; plain = (refl, refl); unlisted = refl } }
+reads_above Second = record { names = codes "number" ∷ []; is = refl; query = record { selects = refl; plain = (refl, refl); unlisted = refl } }
+reads_above Third = record { names = codes "number" ∷ []; is = refl; query = record { selects = refl; plain = (refl, refl); unlisted = refl } }
 
-pub reads_below : IsPlainQuery below_text 6 (below ∷ []) (col 1 0 ∷ [])
+pub reads_below : (version : Version) → IsPlainQueryIn (schema_in version) below_text (register_tree version) (below ∷ []) (col 1 0 ∷ [])
 unfolding understood everything
-reads_below = record { names = codes "number" ∷ []; is = refl; query = record { selects = refl; plain = (refl, refl); unlisted = refl } }
+reads_below First = record { names = codes "number" ∷ []; is = refl; query = record { selects = refl; plain = (refl, refl); unlisted = refl } }
+reads_below Second = record { names = codes "number" ∷ []; is = refl; query = record { selects = refl; plain = (refl, refl); unlisted = refl } }
+reads_below Third = record { names = codes "number" ∷ []; is = refl; query = record { selects = refl; plain = (refl, refl); unlisted = refl } }
 
-at_whole : IsWhole at_text 1
+at_whole : (version : Version) → IsWholeIn (schema_in version) at_text 1
 unfolding understood everything
-at_whole = record { plain = (refl, refl); whole = refl; width_is = refl }
+at_whole First = record { plain = (refl, refl); whole = refl; width_is = refl }
+at_whole Second = record { plain = (refl, refl); whole = refl; width_is = refl }
+at_whole Third = record { plain = (refl, refl); whole = refl; width_is = refl }
 
-above_whole : IsWhole above_text 1
+above_whole : (version : Version) → IsWholeIn (schema_in version) above_text 1
 unfolding understood everything
-above_whole = record { plain = (refl, refl); whole = refl; width_is = refl }
+above_whole First = record { plain = (refl, refl); whole = refl; width_is = refl }
+above_whole Second = record { plain = (refl, refl); whole = refl; width_is = refl }
+above_whole Third = record { plain = (refl, refl); whole = refl; width_is = refl }
 
-below_whole : IsWhole below_text 1
+below_whole : (version : Version) → IsWholeIn (schema_in version) below_text 1
 unfolding understood everything
-below_whole = record { plain = (refl, refl); whole = refl; width_is = refl }
+below_whole First = record { plain = (refl, refl); whole = refl; width_is = refl }
+below_whole Second = record { plain = (refl, refl); whole = refl; width_is = refl }
+below_whole Third = record { plain = (refl, refl); whole = refl; width_is = refl }
 
-module _ (old new : State) (has : old.now.schema ≡ desk_schema) (open' : IsTrue old.is_open) (number : ℤ) (r : Result (Vec Row Global) Error) where
-  pub at_caused : IfErr r (FailsToQuery at_text (Int number ∷ []) old new) → IfErr r (ForCause old new)
-  at_caused h = plain_caused reads_at (Int number ∷ []) old new has open' at_whole refl r h
+abbrev Typed : Version → List Term → List Term → ℤ → Type 0
+Typed version tests shown number = accepts_program (schema_in version) [] (plain (register_tree version) tests shown) (Int number ∷ []) ≡ true
 
-  pub above_caused : IfErr r (FailsToQuery above_text (Int number ∷ []) old new) → IfErr r (ForCause old new)
-  above_caused h = plain_caused reads_above (Int number ∷ []) old new has open' above_whole refl r h
+at_typed : (version : Version) (number : ℤ) → Typed version (equals 0 0 ∷ []) columns number
+at_typed First number = refl
+at_typed Second number = refl
+at_typed Third number = refl
 
-  pub below_caused : IfErr r (FailsToQuery below_text (Int number ∷ []) old new) → IfErr r (ForCause old new)
-  below_caused h = plain_caused reads_below (Int number ∷ []) old new has open' below_whole refl r h
+above_typed : (version : Version) (number : ℤ) → Typed version (above ∷ []) (col 1 0 ∷ []) number
+above_typed First number = refl
+above_typed Second number = refl
+above_typed Third number = refl
+
+below_typed : (version : Version) (number : ℤ) → Typed version (below ∷ []) (col 1 0 ∷ []) number
+below_typed First number = refl
+below_typed Second number = refl
+below_typed Third number = refl
+
+-- no step of a query changes the tree
+untouched : (version : Version) (trees : Trees) → overlay trees [] (register_tree version) ≡ trees (register_tree version)
+untouched First trees = refl
+untouched Second trees = refl
+untouched Third trees = refl
+
+module _ (version : Version) (old new : State) (has : old.now.schema ≡ schema_in version) (number : ℕ) (r : Result (Vec Row Global) Error) where
+  abbrev held : List Row
+  held = old.now.trees (register_tree version)
+
+  pub at_shown : IfOk r (λ rows. Shown at_text (Int (pos number) ∷ []) old new rows.items) → IfOk r (λ rows. IsPermutation (map shown (filter (has_number number) held)) rows.items)
+  at_shown h =
+      subst (λ (mine : List Row). IfOk r (λ rows. IsPermutation (map shown (filter (has_number number) mine)) rows.items)) (untouched version old.now.trees) (rows_shown (reads_at version) (Int (pos number) ∷ []) old new has r h)
+
+  pub above_shown : IfOk r (λ rows. Shown above_text (Int (pos number) ∷ []) old new rows.items) → IfOk r (λ rows. rows.items ≡ [] ↔ filter (is_above number) held ≡ [])
+  above_shown h =
+      subst (λ (mine : List Row). IfOk r (λ rows. rows.items ≡ [] ↔ filter (is_above number) mine ≡ [])) (untouched version old.now.trees) (none_shown (reads_above version) (Int (pos number) ∷ []) old new has r h)
+
+  pub below_shown : IfOk r (λ rows. Shown below_text (Int (pos number) ∷ []) old new rows.items) → IfOk r (λ rows. rows.items ≡ [] ↔ filter (is_below number) held ≡ [])
+  below_shown h =
+      subst (λ (mine : List Row). IfOk r (λ rows. rows.items ≡ [] ↔ filter (is_below number) mine ≡ [])) (untouched version old.now.trees) (none_shown (reads_below version) (Int (pos number) ∷ []) old new has r h)
+
+module _ (version : Version) (old new : State) (has : old.now.schema ≡ schema_in version) (number : ℤ) (r : Result (Vec Row Global) Error) where
+  module _ (open' : IsTrue old.is_open) where
+    pub at_caused : IfErr r (FailsToQuery at_text (Int number ∷ []) old new) → IfErr r (ForCause old new)
+    at_caused h = plain_caused (reads_at version) (Int number ∷ []) old new has open' (at_whole version) (at_typed version number) r h
+
+    pub above_caused : IfErr r (FailsToQuery above_text (Int number ∷ []) old new) → IfErr r (ForCause old new)
+    above_caused h = plain_caused (reads_above version) (Int number ∷ []) old new has open' (above_whole version) (above_typed version number) r h
+
+    pub below_caused : IfErr r (FailsToQuery below_text (Int number ∷ []) old new) → IfErr r (ForCause old new)
+    below_caused h = plain_caused (reads_below version) (Int number ∷ []) old new has open' (below_whole version) (below_typed version number) r h
 
 -- ---- the row of a number
 
@@ -107,36 +166,37 @@ in_order : (s r k b a i u q c m d l t e p v x y z n g s' r' k' b' a' i' u' q' c'
     → (n ∷ s ∷ r ∷ k ∷ g ∷ b ∷ a ∷ i ∷ u ∷ q ∷ c ∷ m ∷ d ∷ l ∷ t ∷ e ∷ p ∷ v ∷ x ∷ y ∷ z ∷ []) ≡ (n' ∷ s' ∷ r' ∷ k' ∷ g' ∷ b' ∷ a' ∷ i' ∷ u' ∷ q' ∷ c' ∷ m' ∷ d' ∷ l' ∷ t' ∷ e' ∷ p' ∷ v' ∷ x' ∷ y' ∷ z' ∷ [])
 in_order s r k b a i u q c m d l t e p v x y z n g s' r' k' b' a' i' u' q' c' m' d' l' t' e' p' v' x' y' z' n' g' same = cc
 
-shown_whole : (row : Row) (number : ℕ) (kept : Kept) → shown row ≡ shown_kept number kept → shown_by 20 row ≡ given number kept.entry kept.reply
-shown_whole row number kept same = in_order _ _ _ _ _ _ _ _ _ _ _ _ _ _ _ _ _ _ _ _ _ _ _ _ _ _ _ _ _ _ _ _ _ _ _ _ _ _ _ _ _ _ same
+shown_whole : (version : Version) (row : Row) (number : ℕ) (kept : Kept) → shown row ≡ shown_kept version number kept → shown_by 20 row ≡ given_in version number kept.entry kept.reply
+shown_whole version row number kept same = in_order _ _ _ _ _ _ _ _ _ _ _ _ _ _ _ _ _ _ _ _ _ _ _ _ _ _ _ _ _ _ _ _ _ _ _ _ _ _ _ _ _ _ same
 
-all_whole : (mine : List Row) (number : ℕ) (kept : Kept) → map shown mine ≡ shown_kept number kept ∷ [] → map (shown_by 20) mine ≡ given number kept.entry kept.reply ∷ []
-all_whole [] number kept only = absurd (cc)
-all_whole (r ∷ []) number kept only = (let first : shown r ≡ shown_kept number kept = cc in ap (λ x. x ∷ []) (shown_whole r number kept first))
-all_whole (r ∷ (s ∷ more)) number kept only = absurd (cc)
+all_whole : (version : Version) (mine : List Row) (number : ℕ) (kept : Kept) → map shown mine ≡ shown_kept version number kept ∷ [] → map (shown_by 20) mine ≡ given_in version number kept.entry kept.reply ∷ []
+all_whole version [] number kept only = absurd (cc)
+all_whole version (r ∷ []) number kept only = (let first : shown r ≡ shown_kept version number kept = cc in ap (λ x. x ∷ []) (shown_whole version r number kept first))
+all_whole version (r ∷ (s ∷ more)) number kept only = absurd (cc)
 
-one_row : (rows items : List Row) (number : ℕ) (kept : Kept) → AllByRecursion (HasForm register_table) rows → IsPermutation (map shown (filter (has_number number) rows)) items → items ≡ shown_kept number kept ∷ []
-    → HasOne rows number (values_of kept.entry kept.reply)
-one_row rows items number kept formed same is =
+one_row : (version : Version) (rows items : List Row) (number : ℕ) (kept : Kept) → AllByRecursion (HasForm register_table) rows → IsPermutation (map shown (filter (has_number number) rows)) items → items ≡ shown_kept version number kept ∷ []
+    → HasOne rows number (values_in version kept.entry kept.reply)
+one_row version rows items number kept formed same is =
     let mine = filter (has_number number) rows in
     let back = IsPermutation-sym (map shown mine) items same in
-    let only : map shown mine ≡ shown_kept number kept ∷ [] = one_permutation (shown_kept number kept) (map shown mine) (subst (λ (xs : List Row). IsPermutation xs (map shown mine)) is back) in
-    is_its_row register_table 20 numbered rows (map (shown_by 20) mine) number (values_of kept.entry kept.reply) refl formed (IsPermutation-refl (map (shown_by 20) mine)) (all_whole mine number kept only)
+    let only : map shown mine ≡ shown_kept version number kept ∷ [] = one_permutation (shown_kept version number kept) (map shown mine) (subst (λ (xs : List Row). IsPermutation xs (map shown mine)) is back) in
+    is_its_row register_table 20 numbered rows (map (shown_by 20) mine) number (values_in version kept.entry kept.reply) refl formed (IsPermutation-refl (map (shown_by 20) mine)) (all_whole version mine number kept only)
 
-pub found : (rows items shown_rows : List Row) (number : ℕ) (r : Result Found Error) → AllByRecursion (HasForm register_table) rows → IsPermutation (map shown (filter (has_number number) rows)) items → shown_rows ≡ items
-    → IfOk r (λ it. IsShownAs shown_rows number it) → IfOk r (λ it. IsFound rows number it)
-found rows items shown_rows number (Ok Nothing) formed same is h = tt
-found rows items shown_rows number (Ok Another) formed same is h = tt
-found rows items shown_rows number (Ok (Entry kept)) formed same is h = record { row = one_row rows items number kept formed same (sym is ∙ h.is); formed = h.formed }
-found rows items shown_rows number (Err e) formed same is h = tt
+pub found : (version : Version) (rows items shown_rows : List Row) (number : ℕ) (r : Result Found Error) → AllByRecursion (HasForm register_table) rows → IsPermutation (map shown (filter (has_number number) rows)) items → shown_rows ≡ items
+    → IfOk r (λ it. IsShownAs version shown_rows number it) → IfOk r (λ it. IsFound version rows number it)
+found version rows items shown_rows number (Ok Nothing) formed same is h = tt
+found version rows items shown_rows number (Ok Another) formed same is h = tt
+found version rows items shown_rows number (Ok (Entry kept)) formed same is h = record { row = one_row version rows items number kept formed same (sym is ∙ h.is); formed = h.formed; said = h.said }
+found version rows items shown_rows number (Err e) formed same is h = tt
 
 -- where the row of a number is one that was written, it is all that is shown
-shown_there : (rows items : List Row) (number : ℕ) (kept : Kept) → IsPermutation (map shown (filter (has_number number) rows)) items → HasOne rows number (values_of kept.entry kept.reply) → items ≡ shown_kept number kept ∷ []
-shown_there rows items number kept same one = one_permutation (shown_kept number kept) items (subst (λ (mine : List Row). IsPermutation (map shown mine) items) one same)
+shown_there : (version : Version) (rows items : List Row) (number : ℕ) (kept : Kept) → IsPermutation (map shown (filter (has_number number) rows)) items → HasOne rows number (values_in version kept.entry kept.reply)
+    → items ≡ shown_kept version number kept ∷ []
+shown_there version rows items number kept same one = one_permutation (shown_kept version number kept) items (subst (λ (mine : List Row). IsPermutation (map shown mine) items) one same)
 
-pub found_exact : (rows items shown_rows : List Row) (number : ℕ) (r : Result Found Error) → IsPermutation (map shown (filter (has_number number) rows)) items → shown_rows ≡ items
-    → ((kept : Kept) → IsShownRow shown_rows number kept → HasShortNumbers kept.reply → IfOk r (λ it. it ≡ Entry kept)) → (kept : Kept) → IsRowOf rows number kept → HasShortNumbers kept.reply → IfOk r (λ it. it ≡ Entry kept)
-found_exact rows items shown_rows number r same is exact kept row short = exact kept (record { is = is ∙ shown_there rows items number kept same row.row; formed = row.formed }) short
+pub found_exact : (version : Version) (rows items shown_rows : List Row) (number : ℕ) (r : Result Found Error) → IsPermutation (map shown (filter (has_number number) rows)) items → shown_rows ≡ items
+    → ((kept : Kept) → IsShownRow version shown_rows number kept → HasShortNumbers kept.reply → IfOk r (λ it. it ≡ Entry kept)) → (kept : Kept) → IsRowOf version rows number kept → HasShortNumbers kept.reply → IfOk r (λ it. it ≡ Entry kept)
+found_exact version rows items shown_rows number r same is exact kept row short = exact kept (record { is = is ∙ shown_there version rows items number kept same row.row; formed = row.formed; said = row.said }) short
 
 pub nothing_found : (rows items shown_rows : List Row) (number : ℕ) (r : Result Found Error) → IsPermutation (map shown (filter (has_number number) rows)) items → shown_rows ≡ items
     → IfOk r (λ it. (it ≡ Nothing) ↔ (shown_rows ≡ [])) → IfOk r (λ it. (it ≡ Nothing) ↔ (filter (has_number number) rows ≡ []))

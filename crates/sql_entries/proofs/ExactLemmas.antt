@@ -11,6 +11,7 @@ use Rattle.sql_entries.specs.Reading.{Says, SaysReply}
 use Rattle.sql_entries.specs.Rows.{shown_kept}
 use Rattle.sql_entries.specs.Shown.{shown_entry, shown_reply}
 use Rattle.sql_entries.proofs.ReadingLemmas.{reads_back, says_itself}
+use Rattle.sql_tables.specs.declared.versions.Version.{Version}
 
 -- ---- of an entry
 
@@ -33,12 +34,12 @@ module _ (row : Row) (entry : Entry) (rest : Row) (is : row ≡ shown_entry entr
 abbrev pub behind : ℕ → Kept → Row
 behind number kept = shown_reply kept.reply ++ Int (pos number) ∷ Words (about_of kept.entry) ∷ []
 
-module _ (row : Row) (number : ℕ) (kept : Kept) (is : row ≡ shown_kept number kept) where
+module _ (version : Version) (row : Row) (number : ℕ) (kept : Kept) (is : row ≡ shown_kept version number kept) where
   pub says_its_reply : SaysReply row 16 kept.reply
   says_its_reply = record { status = ap (λ (r : Row). column r 16) is; mt = ap (λ (r : Row). column r 17) is; text = ap (λ (r : Row). column r 18) is }
 
   pub wide : 18 < length row
-  wide = let all : 18 < length (shown_kept number kept) = lit< tt in subst (λ (r : Row). 18 < length r) (sym is) all
+  wide = let all : 18 < length (shown_kept version number kept) = lit< tt in subst (λ (r : Row). 18 < length r) (sym is) all
 
 pub first_row : (rows : List Row) (row : Row) (it : Row) → Some row ≡ slice_get rows 0 → rows ≡ it ∷ [] → row ≡ it
 first_row rows row it first is = let one : Some row ≡ Some it = first ∙ ap (λ (all : List Row). slice_get all 0) is in cc

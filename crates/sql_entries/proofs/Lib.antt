@@ -17,3 +17,4 @@ pub mod SameLemmas
 pub mod SecurityLemmas
 pub mod SpeltLemmas
 pub mod TextLemmas
+mod ToldLemmas

@@ -19,9 +19,11 @@ use Rattle.sql_tables.specs.Queries.{passes_all, falling, Among, IsFirst}
 use Rattle.sql_tables.proofs.QueryLemmas.{all_kept, at_among}
 use Rattle.sql_tables.proofs.EditLemmas.{put_last}
 use Rattle.sql_tables.proofs.ValueLemmas.{and_true, equal_test, number_less}
-use Rattle.sql_entries.specs.Entries.{row_of, rows_from}
+use Rattle.sql_entries.specs.Entries.{row_in, row_of, rows_from, rows_in}
 use Rattle.sql_entries.specs.Shown.{count_rows, row_if}
 use Rattle.sql_entries.proofs.TextLemmas.{by_number}
+use Rattle.sql_tables.specs.declared.versions.Version.{Version}
+use Rattle.sql_tables.specs.declared.versions.Version.TheVariants.{Third}
 
 -- ---- the rows of a number
 
@@ -29,37 +31,44 @@ one_shown : {X : Type 0} (shows : X → Row) (found : Option X) (rows : List Row
 one_shown shows None rows same = nil_from_length rows (length_permutation [] rows same)
 one_shown shows (Some x) rows same = one_permutation (shows x) rows same
 
-abbrev numbered : ℕ → Kept → Row
-numbered n kept = row_of n kept.entry kept.reply
-
 abbrev has_number : ℕ → Row → Bool
 has_number number = passes_all (by_number ∷ []) (Int (pos number) ∷ [])
 
-tells_number : (number m : ℕ) (kept : Kept) → has_number number (numbered m kept) ≡ m == number
-unfolding binary
-tells_number number m kept = rw (equal_test m number) (and_true (m == number))
+module _ (version : Version) where
+  abbrev numbered_in : ℕ → Kept → Row
+  numbered_in n kept = row_in version n kept.entry kept.reply
 
-passed : (number n : ℕ) (register : List Kept) → number ≤ n → filter (has_number number) (rows_from n register) ≡ []
-passed number n [] low = refl
-passed number n (kept ∷ more) low =
-    ap (λ b. cond b (numbered (n + 1) kept ∷ filter (has_number number) (rows_from (n + 1) more)) (filter (has_number number) (rows_from (n + 1) more))) (tells_number number (n + 1) kept ∙ ne_eqb (n + 1) number (λ e. omega arith))
-    ∙ passed number (n + 1) more (omega arith)
+  tells_number : (number m : ℕ) (kept : Kept) → has_number number (numbered_in m kept) ≡ m == number
+  unfolding binary
+  tells_number number m kept = rw (equal_test m number) (and_true (m == number))
 
-found_at : (k n number : ℕ) (register : List Kept) → number ≡ n + k + 1 → filter (has_number number) (rows_from n register) ≡ row_if (numbered number) (slice_get register k)
-found_at zero n number [] is = refl
-found_at (suc k) n number [] is = refl
-found_at zero n number (kept ∷ more) is =
-    let here : n + 1 ≡ number = omega arith in
-    ap (λ b. cond b (numbered (n + 1) kept ∷ filter (has_number number) (rows_from (n + 1) more)) (filter (has_number number) (rows_from (n + 1) more))) (tells_number number (n + 1) kept ∙ eq-eqb (n + 1) number here)
-    ∙ ap (λ rows. numbered (n + 1) kept ∷ rows) (passed number (n + 1) more (omega arith))
-    ∙ ap (λ m. numbered m kept ∷ []) here
-found_at (suc k) n number (kept ∷ more) is =
-    ap (λ b. cond b (numbered (n + 1) kept ∷ filter (has_number number) (rows_from (n + 1) more)) (filter (has_number number) (rows_from (n + 1) more))) (tells_number number (n + 1) kept ∙ ne_eqb (n + 1) number (λ e. omega arith))
-    ∙ found_at k (n + 1) number more (omega arith)
+  passed : (number n : ℕ) (register : List Kept) → number ≤ n → filter (has_number number) (rows_in version n register) ≡ []
+  passed number n [] low = refl
+  passed number n (kept ∷ more) low =
+      ap (λ b. cond b (numbered_in (n + 1) kept ∷ filter (has_number number) (rows_in version (n + 1) more)) (filter (has_number number) (rows_in version (n + 1) more))) (tells_number number (n + 1) kept ∙ ne_eqb (n + 1) number (λ e. omega arith))
+      ∙ passed number (n + 1) more (omega arith)
 
-pub found : (number : ℕ) (register : List Kept) → filter (has_number number) (rows_from 0 register) ≡ row_if (numbered number) (kept_at register number)
-found zero register = passed 0 0 register (omega arith)
-found (suc k) register = found_at k 0 (suc k) register (omega arith)
+  found_at : (k n number : ℕ) (register : List Kept) → number ≡ n + k + 1 → filter (has_number number) (rows_in version n register) ≡ row_if (numbered_in number) (slice_get register k)
+  found_at zero n number [] is = refl
+  found_at (suc k) n number [] is = refl
+  found_at zero n number (kept ∷ more) is =
+      let here : n + 1 ≡ number = omega arith in
+      ap (λ b. cond b (numbered_in (n + 1) kept ∷ filter (has_number number) (rows_in version (n + 1) more)) (filter (has_number number) (rows_in version (n + 1) more))) (tells_number number (n + 1) kept ∙ eq-eqb (n + 1) number here)
+      ∙ ap (λ rows. numbered_in (n + 1) kept ∷ rows) (passed number (n + 1) more (omega arith))
+      ∙ ap (λ m. numbered_in m kept ∷ []) here
+  found_at (suc k) n number (kept ∷ more) is =
+      ap (λ b. cond b (numbered_in (n + 1) kept ∷ filter (has_number number) (rows_in version (n + 1) more)) (filter (has_number number) (rows_in version (n + 1) more))) (tells_number number (n + 1) kept ∙ ne_eqb (n + 1) number (λ e. omega arith))
+      ∙ found_at k (n + 1) number more (omega arith)
+
+  pub found_in : (number : ℕ) (register : List Kept) → filter (has_number number) (rows_in version 0 register) ≡ row_if (numbered_in number) (kept_at register number)
+  found_in zero register = passed 0 0 register (omega arith)
+  found_in (suc k) register = found_at k 0 (suc k) register (omega arith)
+
+abbrev numbered : ℕ → Kept → Row
+numbered n kept = row_of n kept.entry kept.reply
+
+found : (number : ℕ) (register : List Kept) → filter (has_number number) (rows_from 0 register) ≡ row_if (numbered number) (kept_at register number)
+found = found_in Third
 
 -- what is shown of the row of a number
 pub shows_number : (terms : List Term) (number : ℕ) (shows : Kept → Row) (register : List Kept) (held rows : List Row) → held ≡ rows_from 0 register

@@ -9,7 +9,11 @@ use Rattle.desk_rules.specs.declared.answers.reply.Kept.{Kept}
 use Rattle.desk_rules.specs.declared.answers.reply.Reply.{Reply}
 use Rattle.desk_rules.specs.History.{reference_of, sender_of}
 use Rattle.sql_tables.specs.Ends.{SparesOthers}
+use Rattle.sql_tables.specs.Versions.{register_tree}
 use Rattle.sql_entries.specs.Columns.{about_of, columns_of, kind_number, sender_text}
+use Rattle.sql_entries.specs.Told.{kind_in, rule_in}
+use Rattle.sql_tables.specs.declared.versions.Version.{Version}
+use Rattle.sql_tables.specs.declared.versions.Version.TheVariants.{Third}
 
 -- the message type of a reply, and NULL where it is no message
 abbrev pub type_value : Option ℕ → Value
@@ -25,7 +29,19 @@ values_of entry reply =
     ∷ Int (pos (columns_of entry).mt) ∷ Words (columns_of entry).settlement ∷ Words (columns_of entry).place ∷ Words (columns_of entry).previous
     ∷ Int (pos reply.status) ∷ type_value reply.mt ∷ Words reply.text ∷ []
 
+-- the same in a version of the file
+abbrev pub values_in : Version → Entry → Reply → Row
+values_in version entry reply =
+    Words (sender_text (sender_of entry)) ∷ Words (reference_of entry) ∷ Int (pos (kind_in version entry)) ∷ Words (about_of entry) ∷ Words (columns_of entry).bic
+    ∷ Words (columns_of entry).account ∷ Words (columns_of entry).isin ∷ Words (columns_of entry).unit ∷ Int (pos (columns_of entry).quantity)
+    ∷ Words (columns_of entry).currency ∷ Int (pos (columns_of entry).amount) ∷ Words (columns_of entry).day ∷ Int (pos (rule_in version entry))
+    ∷ Int (pos (columns_of entry).mt) ∷ Words (columns_of entry).settlement ∷ Words (columns_of entry).place ∷ Words (columns_of entry).previous
+    ∷ Int (pos reply.status) ∷ type_value reply.mt ∷ Words reply.text ∷ []
+
 -- The row of an entry with its reply, as it is stored: its rowid is the number, and NULL stands in the key's own column.
+abbrev pub row_in : Version → ℕ → Entry → Reply → Row
+row_in version number entry reply = Int (pos number) ∷ Null ∷ values_in version entry reply
+
 abbrev pub row_of : ℕ → Entry → Reply → Row
 row_of number entry reply = Int (pos number) ∷ Null ∷ values_of entry reply
 
@@ -33,15 +49,24 @@ row_of number entry reply = Int (pos number) ∷ Null ∷ values_of entry reply
 abbrev pub given : ℕ → Entry → Reply → Row
 given number entry reply = Int (pos number) ∷ values_of entry reply
 
+abbrev pub given_in : Version → ℕ → Entry → Reply → Row
+given_in version number entry reply = Int (pos number) ∷ values_in version entry reply
+
 -- the rows of these entries, whose numbers go on from n
+abbrev pub rows_in : Version → ℕ → List Kept → List Row
+rows_in version n [] = []
+rows_in version n (kept ∷ more) = row_in version (n + 1) kept.entry kept.reply ∷ rows_in version (n + 1) more
+
 abbrev pub rows_from : ℕ → List Kept → List Row
-rows_from n [] = []
-rows_from n (kept ∷ more) = row_of (n + 1) kept.entry kept.reply ∷ rows_from (n + 1) more
+rows_from = rows_in Third
 
 -- the table is these entries with their replies, numbered from 1, and each number fits an integer of SQL
-pub record AreEntries (db : Database) (register : List Kept) : Type 0 where
-  pub rows : db.trees 6 ≡ rows_from 0 register
+pub record AreEntriesIn (version : Version) (db : Database) (register : List Kept) : Type 0 where
+  pub rows : db.trees (register_tree version) ≡ rows_in version 0 register
   pub few : length register < 2 ^ 63
+
+abbrev pub AreEntries : Database → List Kept → Type 0
+AreEntries = AreEntriesIn Third
 
 -- the entries alone
 abbrev pub entries_in : List Kept → List Entry

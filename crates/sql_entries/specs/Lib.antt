@@ -7,3 +7,4 @@ pub mod Opposites
 pub mod Found
 pub mod Rows
 pub mod Unread
+pub mod Told

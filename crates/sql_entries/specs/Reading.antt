@@ -1,5 +1,5 @@
 -- What a shown row says, column by column.
-use Rattle.std.specs.Prelude.{◌≡◌, ℕ, ◌+◌, pos, [], Option, Some, None}
+use Rattle.std.specs.Prelude.{◌≡◌, ℕ, ◌+◌, pos, List, [], Option, Some, None}
 use Rattle.sqlite.specs.declared.types.Value.TheVariants.{Int, Text as Words}
 use Rattle.sqlite.specs.Order.{Row, column}
 use Rattle.desk_codes.specs.Currency.{letters_of}
@@ -11,6 +11,7 @@ use Rattle.desk_rules.specs.declared.answers.reply.Reply.{Reply}
 use Rattle.desk_rules.specs.declared.history.entry.Movement.{Movement}
 use Rattle.desk_rules.specs.declared.history.entry.Payment.{Payment}
 use Rattle.desk_rules.specs.declared.history.entry.Entry.{Entry}
+use Rattle.desk_rules.specs.declared.history.entry.RunRule.{RunRule}
 use Rattle.desk_rules.specs.declared.history.entry.Entry.TheVariants.{Participant, Account, Security, Issue, Redeem, PayIn, PayOut, Instruct, Cancel, Run}
 use Rattle.sql_entries.specs.declared.places.TheConstants.{SENDER, REFERENCE, BIC, ACCOUNT, ISIN, UNIT, QUANTITY, CURRENCY, AMOUNT, DAY, RULE, MT, SETTLEMENT, PLACE, PREVIOUS}
 use Rattle.sql_entries.specs.Columns.{kind_number, number_of_rule}
@@ -68,6 +69,14 @@ Says row (Run reference day rule) = (column row REFERENCE ≡ Words reference) �
 pub record SaysOf (kind : ℕ) (row : Row) (entry : Entry) : Type 0 where
   pub kind_is : kind_number entry ≡ kind
   pub says : Says row entry
+
+-- it is a run of a rule, whose reference and day the row says
+pub record SaysRun (row : Row) (rule : RunRule) (entry : Entry) : Type 0 where
+  pub reference : List ℕ
+  pub day : List ℕ
+  pub is : entry ≡ Run reference day rule
+  pub says_reference : column row REFERENCE ≡ Words reference
+  pub says_day : column row DAY ≡ Words day
 
 -- three columns, from a place on, say a reply
 pub record SaysReply (row : Row) (at : ℕ) (reply : Reply) : Type 0 where

@@ -1,4 +1,4 @@
--- The rows of `register`: as a query shows them, and as entries with their replies make them.
+-- The rows of `register`: as a query shows them, and as entries with their replies make them in a version of the file.
 use Rattle.std.specs.Prelude.{ℕ, pos, List, [], ◌∷◌, ◌++◌, option_map, Option}
 use Rattle.sqlite.specs.declared.types.Value.TheVariants.{Int, Text as Words}
 use Rattle.sqlite.specs.Order.{Row, column}
@@ -6,8 +6,9 @@ use Rattle.sqlite.specs.Tree.{rowid}
 use Rattle.desk_rules.specs.declared.answers.reply.Kept.{Kept}
 use Rattle.desk_register.specs.Looked.{kept_at}
 use Rattle.sql_entries.specs.Columns.{about_of}
-use Rattle.sql_entries.specs.Entries.{values_of}
-use Rattle.sql_entries.specs.Shown.{shown_entry, shown_reply}
+use Rattle.sql_entries.specs.Entries.{values_in}
+use Rattle.sql_entries.specs.Shown.{shown_in, shown_reply}
+use Rattle.sql_tables.specs.declared.versions.Version.{Version}
 
 -- what the query shows of a row: the columns that say the entry, those that say the reply, the number, and what is registered
 abbrev pub shown : Row → Row
@@ -16,9 +17,9 @@ shown row =
     ∷ column row 14 ∷ column row 15 ∷ column row 16 ∷ column row 17 ∷ column row 18 ∷ column row 19 ∷ column row 20 ∷ column row 21 ∷ rowid row ∷ column row 5 ∷ []
 
 -- what it shows of the row of an entry with its reply
-abbrev pub shown_kept : ℕ → Kept → Row
-shown_kept number kept = shown_entry kept.entry ++ shown_reply kept.reply ++ Int (pos number) ∷ Words (about_of kept.entry) ∷ []
+abbrev pub shown_kept : Version → ℕ → Kept → Row
+shown_kept version number kept = shown_in version kept.entry ++ shown_reply kept.reply ++ Int (pos number) ∷ Words (about_of kept.entry) ∷ []
 
 -- the values behind the number, for each number of a list
-abbrev pub wanted : List Kept → ℕ → Option Row
-wanted register number = option_map (λ kept. values_of kept.entry kept.reply) (kept_at register number)
+abbrev pub wanted : Version → List Kept → ℕ → Option Row
+wanted version register number = option_map (λ kept. values_in version kept.entry kept.reply) (kept_at register number)

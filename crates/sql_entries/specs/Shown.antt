@@ -9,12 +9,22 @@ use Rattle.desk_rules.specs.declared.answers.reply.Reply.{Reply}
 use Rattle.desk_rules.specs.History.{reference_of, sender_of}
 use Rattle.sql_entries.specs.Columns.{columns_of, kind_number, sender_text}
 use Rattle.sql_entries.specs.Entries.{type_value}
+use Rattle.sql_entries.specs.Told.{kind_in, rule_in}
+use Rattle.sql_tables.specs.declared.versions.Version.{Version}
 
 abbrev pub shown_entry : Entry → Row
 shown_entry entry =
     Words (sender_text (sender_of entry)) ∷ Words (reference_of entry) ∷ Int (pos (kind_number entry)) ∷ Words (columns_of entry).bic ∷ Words (columns_of entry).account
     ∷ Words (columns_of entry).isin ∷ Words (columns_of entry).unit ∷ Int (pos (columns_of entry).quantity) ∷ Words (columns_of entry).currency
     ∷ Int (pos (columns_of entry).amount) ∷ Words (columns_of entry).day ∷ Int (pos (columns_of entry).rule) ∷ Int (pos (columns_of entry).mt)
+    ∷ Words (columns_of entry).settlement ∷ Words (columns_of entry).place ∷ Words (columns_of entry).previous ∷ []
+
+-- the same in a version of the file
+abbrev pub shown_in : Version → Entry → Row
+shown_in version entry =
+    Words (sender_text (sender_of entry)) ∷ Words (reference_of entry) ∷ Int (pos (kind_in version entry)) ∷ Words (columns_of entry).bic ∷ Words (columns_of entry).account
+    ∷ Words (columns_of entry).isin ∷ Words (columns_of entry).unit ∷ Int (pos (columns_of entry).quantity) ∷ Words (columns_of entry).currency
+    ∷ Int (pos (columns_of entry).amount) ∷ Words (columns_of entry).day ∷ Int (pos (rule_in version entry)) ∷ Int (pos (columns_of entry).mt)
     ∷ Words (columns_of entry).settlement ∷ Words (columns_of entry).place ∷ Words (columns_of entry).previous ∷ []
 
 abbrev pub shown_reply : Reply → Row

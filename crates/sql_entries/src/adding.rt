@@ -9,6 +9,7 @@ ghost use Rattle.sql_tables.specs.Calls.{FailsForCause, Soundly, Writes, tables}
 use crate::values::row_values;
 use desk_rules::{Entry, Reply, well_formed};
 use sql_tables::statement::execute;
+use sql_tables::versions::Version;
 use sqlite::{Alter, Connection, Error};
 
 /// An entry is well formed: whoever sends one has a name.
@@ -32,7 +33,7 @@ pub fn add_entry<S: Alter>(
     ensures blame { Soundly S.Store conn.old conn.new ((register : List Kept) → AreEntries (tables S.Store conn.old) register → number ≡ length register + 1 → AreWellFormed (entries_in register) → number_of_key (entries_in register) (sender_of entry.now) (reference_of entry.now) ≡ None → FailsForCause S.Store conn.old conn.new result) }
 {
     formed(entry);
-    let row = row_values(number, entry, reply);
+    let row = row_values(Version::Third, number, entry, reply);
     execute(
         conn,
         "INSERT INTO register (number, sender, reference, kind, about, bic, account, isin, unit, quantity, currency, amount, day, rule, mt, settlement, place, previous, status, reply_mt, reply) VALUES (?1, ?2, ?3, ?4, ?5, ?6, ?7, ?8, ?9, ?10, ?11, ?12, ?13, ?14, ?15, ?16, ?17, ?18, ?19, ?20, ?21)",

@@ -1,4 +1,4 @@
-//! The rows of `register` by their numbers.
+//! The rows of `register` by their numbers, in a version of the file.
 ghost use Rattle.std.specs.Prelude.{◌≡◌, ◌↔◌, ℕ, ◌<◌, ◌^◌, ◌∷◌, ◌++◌, [], length, map, filter, Some, IsTrue, IfErr, IfOk};
 ghost use Rattle.std.specs.List.{AllByRecursion};
 ghost use Rattle.std.specs.List.Sorted.{IsPermutation};
@@ -11,7 +11,9 @@ ghost use Rattle.desk_rules.specs.declared.answers.reply.Reply.{Reply as Answer}
 ghost use Rattle.desk_rules.specs.declared.history.entry.Entry.{Entry as AnyEntry};
 ghost use Rattle.desk_rules.specs.Spelt.{IsSpelt};
 ghost use Rattle.desk_rules.specs.WellFormed.{IsWellFormed};
-ghost use Rattle.sql_tables.specs.Calls.{FailsForCause, Looks, Soundly, tables};
+ghost use Rattle.sql_tables.specs.Calls.{FailsForCause, LooksIn, SoundlyIn, tables};
+ghost use Rattle.sql_tables.specs.Versions.{register_tree, schema_in};
+ghost use Rattle.sql_tables.specs.declared.versions.Version.{Version as AnyVersion};
 ghost use Rattle.sql_tables.specs.Schema.{register_table};
 ghost use Rattle.sql_tables.specs.Forms.{HasForm};
 ghost use Rattle.sql_tables.specs.ByNumber.{has_number, is_above, is_below, HasNoOther};
@@ -19,15 +21,17 @@ ghost use Rattle.sql_tables.specs.Plain.{IsPlain};
 ghost use Rattle.sql_entries.specs.Found.{IsFormed, IsFound, IsRowOf, IsShownAs, IsShownRow};
 ghost use Rattle.sql_entries.specs.Reading.{SaysReply};
 ghost use Rattle.sql_entries.specs.Rows.{shown, shown_kept};
-ghost use Rattle.sql_entries.specs.Shown.{HasShortNumbers, shown_entry};
+ghost use Rattle.sql_entries.specs.Told.{CanSay};
+ghost use Rattle.sql_entries.specs.Shown.{shown_in, HasShortNumbers};
 
-use crate::entry::entry_in;
 use crate::looking::reply_in;
+use crate::told::{can_say, entry_of};
 use crate::values::row_values;
 use desk_rules::{Entry, Kept, Reply, well_formed};
 use sql_tables::compared::same_row;
-use sql_tables::statement::query;
+use sql_tables::statement::query_of;
 use sql_tables::values::integer;
+use sql_tables::versions::Version;
 use sqlite::types::ValueRef;
 use sqlite::{Alter, Connection, Error, ErrorCode, Row};
 use std::alloc::Global;
@@ -38,11 +42,11 @@ const REPLY: usize = 16;
 /// The rows of a number: the columns that say an entry, those of its reply, and the two that are not read but compared.
 fn rows_at<S: Alter>(conn: &mut Connection<S>, number: u64) -> Result<Vec<Row>, Error>
     requires { number < 2 ^ 63 }
-    ensures shown { Soundly S.Store conn.old conn.new (IfOk result (λ rows. IsPermutation (map shown (filter (has_number number) ((tables S.Store conn.old).trees 6))) rows.items)) }
-    ensures look { Looks S.Store conn.old conn.new result }
-    ensures blame { Soundly S.Store conn.old conn.new (FailsForCause S.Store conn.old conn.new result) }
+    ensures shown { (version : AnyVersion) → SoundlyIn S.Store conn.old conn.new (schema_in version) (IfOk result (λ rows. IsPermutation (map shown (filter (has_number number) ((tables S.Store conn.old).trees (register_tree version)))) rows.items)) }
+    ensures look { (version : AnyVersion) → LooksIn S.Store conn.old conn.new (schema_in version) result }
+    ensures blame { (version : AnyVersion) → SoundlyIn S.Store conn.old conn.new (schema_in version) (FailsForCause S.Store conn.old conn.new result) }
 {
-    query(
+    query_of(
         conn,
         "SELECT sender, reference, kind, bic, account, isin, unit, quantity, currency, amount, day, rule, mt, settlement, place, previous, status, reply_mt, reply, number, about FROM register WHERE number = ?1",
         &[integer(number)],
@@ -52,11 +56,11 @@ fn rows_at<S: Alter>(conn: &mut Connection<S>, number: u64) -> Result<Vec<Row>, 
 /// The numbers above one.
 fn rows_above<S: Alter>(conn: &mut Connection<S>, number: u64) -> Result<Vec<Row>, Error>
     requires { number < 2 ^ 63 }
-    ensures shown { Soundly S.Store conn.old conn.new (IfOk result (λ rows. rows.items ≡ [] ↔ filter (is_above number) ((tables S.Store conn.old).trees 6) ≡ [])) }
-    ensures look { Looks S.Store conn.old conn.new result }
-    ensures blame { Soundly S.Store conn.old conn.new (FailsForCause S.Store conn.old conn.new result) }
+    ensures shown { (version : AnyVersion) → SoundlyIn S.Store conn.old conn.new (schema_in version) (IfOk result (λ rows. rows.items ≡ [] ↔ filter (is_above number) ((tables S.Store conn.old).trees (register_tree version)) ≡ [])) }
+    ensures look { (version : AnyVersion) → LooksIn S.Store conn.old conn.new (schema_in version) result }
+    ensures blame { (version : AnyVersion) → SoundlyIn S.Store conn.old conn.new (schema_in version) (FailsForCause S.Store conn.old conn.new result) }
 {
-    query(
+    query_of(
         conn,
         "SELECT number FROM register WHERE number > ?1",
         &[integer(number)],
@@ -66,11 +70,11 @@ fn rows_above<S: Alter>(conn: &mut Connection<S>, number: u64) -> Result<Vec<Row
 /// The numbers below one.
 fn rows_below<S: Alter>(conn: &mut Connection<S>, number: u64) -> Result<Vec<Row>, Error>
     requires { number < 2 ^ 63 }
-    ensures shown { Soundly S.Store conn.old conn.new (IfOk result (λ rows. rows.items ≡ [] ↔ filter (is_below number) ((tables S.Store conn.old).trees 6) ≡ [])) }
-    ensures look { Looks S.Store conn.old conn.new result }
-    ensures blame { Soundly S.Store conn.old conn.new (FailsForCause S.Store conn.old conn.new result) }
+    ensures shown { (version : AnyVersion) → SoundlyIn S.Store conn.old conn.new (schema_in version) (IfOk result (λ rows. rows.items ≡ [] ↔ filter (is_below number) ((tables S.Store conn.old).trees (register_tree version)) ≡ [])) }
+    ensures look { (version : AnyVersion) → LooksIn S.Store conn.old conn.new (schema_in version) result }
+    ensures blame { (version : AnyVersion) → SoundlyIn S.Store conn.old conn.new (schema_in version) (FailsForCause S.Store conn.old conn.new result) }
 {
-    query(
+    query_of(
         conn,
         "SELECT number FROM register WHERE number < ?1",
         &[integer(number)],
@@ -78,9 +82,9 @@ fn rows_below<S: Alter>(conn: &mut Connection<S>, number: u64) -> Result<Vec<Row
 }
 
 /// What is shown of the row of an entry with its reply.
-fn values(number: u64, kept: &Kept) -> [ValueRef<'_>; 21]
+fn values(version: Version, number: u64, kept: &Kept) -> [ValueRef<'_>; 21]
     requires { number < 2 ^ 63 }
-    ensures said { bound result ≡ shown_kept number kept.now }
+    ensures said { bound result ≡ shown_kept version number kept.now }
     ensures plain { AllByRecursion (λ value. IsPlain (owned value)) result }
 {
     let [
@@ -105,30 +109,30 @@ fn values(number: u64, kept: &Kept) -> [ValueRef<'_>; 21]
         status,
         reply_mt,
         reply,
-    ] = row_values(number, &kept.entry, &kept.reply);
+    ] = row_values(version, number, &kept.entry, &kept.reply);
     [
         sender, reference, kind, bic, account, isin, unit, quantity, currency, amount, day, rule,
         mt, settlement, place, previous, status, reply_mt, reply, number, about,
     ]
 }
 
-/// Whether shown rows are the one of an entry with its reply.
-fn is_row_of(rows: &[Row], number: u64, kept: &Kept) -> bool
+/// Whether shown rows are the one of an entry with its reply, which the version can say.
+fn is_row_of(rows: &[Row], version: Version, number: u64, kept: &Kept) -> bool
     requires { number < 2 ^ 63 }
-    ensures { IsTrue result ↔ (rows.now ≡ shown_kept number kept.now ∷ []) }
+    ensures { IsTrue result ↔ ((rows.now ≡ shown_kept version number kept.now ∷ []) × CanSay version kept.now.entry) }
 {
     match rows {
-        [row] => same_row(row, &values(number, kept)),
+        [row] => can_say(version, &kept.entry) && same_row(row, &values(version, number, kept)),
         _ => false,
     }
 }
 
 /// The entry that a shown row says; None where it says none of the desk's.
-fn entry_said(alloc: Global, row: &Row) -> Result<Option<Entry>, Error>
-    ensures exact { (entry : AnyEntry) (rest : Values) → row.now ≡ shown_entry entry ++ rest → IsSpelt entry → IfOk result (λ said. said ≡ Some entry) }
+fn entry_said(alloc: Global, version: Version, row: &Row) -> Result<Option<Entry>, Error>
+    ensures exact { (entry : AnyEntry) (rest : Values) → row.now ≡ shown_in version entry ++ rest → IsSpelt entry → IfOk result (λ said. said ≡ Some entry) }
     ensures fails { 15 < length row.now → IfErr result (λ e. e ≡ Error.SqliteFailure OutOfMemory) }
 {
-    match entry_in(alloc, row) {
+    match entry_of(alloc, version, row) {
         Ok(entry) => Ok(Some(entry)),
         Err(Error::SqliteFailure(ErrorCode::DatabaseCorrupt)) => Ok(None),
         Err(error) => Err(error),
@@ -149,11 +153,11 @@ fn reply_said(alloc: Global, row: &Row) -> Result<Option<Reply>, Error>
 
 /// The entry with its reply that a shown row says. Nothing has to be known of them: the whole row is compared with what they
 /// would write.
-fn kept_said(alloc: Global, row: &Row) -> Result<Option<Kept>, Error>
-    ensures exact { (number : ℕ) (kept : Pair) → row.now ≡ shown_kept number kept → IsWellFormed kept.entry → HasShortNumbers kept.reply → IfOk result (λ said. said ≡ Some kept) }
+fn kept_said(alloc: Global, version: Version, row: &Row) -> Result<Option<Kept>, Error>
+    ensures exact { (number : ℕ) (kept : Pair) → row.now ≡ shown_kept version number kept → IsWellFormed kept.entry → HasShortNumbers kept.reply → IfOk result (λ said. said ≡ Some kept) }
     ensures fails { 18 < length row.now → IfErr result (λ e. e ≡ Error.SqliteFailure OutOfMemory) }
 {
-    let Some(entry) = entry_said(alloc, row)? else {
+    let Some(entry) = entry_said(alloc, version, row)? else {
         return Ok(None);
     };
     let Some(reply) = reply_said(alloc, row)? else {
@@ -173,10 +177,10 @@ pub enum Found {
 }
 
 /// What shown rows of a number are.
-fn found_in(alloc: Global, rows: &[Row], number: u64) -> Result<Found, Error>
+fn found_in(alloc: Global, rows: &[Row], version: Version, number: u64) -> Result<Found, Error>
     requires { number < 2 ^ 63 }
-    ensures shown { IfOk result (λ found. IsShownAs rows.now number found) }
-    ensures exact { (kept : Pair) → IsShownRow rows.now number kept → HasShortNumbers kept.reply → IfOk result (λ found. found ≡ Found.Entry kept) }
+    ensures shown { IfOk result (λ found. IsShownAs version rows.now number found) }
+    ensures exact { (kept : Pair) → IsShownRow version rows.now number kept → HasShortNumbers kept.reply → IfOk result (λ found. found ≡ Found.Entry kept) }
     ensures nothing { IfOk result (λ found. (found ≡ Found.Nothing) ↔ (rows.now ≡ [])) }
     ensures formed { IfOk result IsFormed }
     ensures fails { AllByRecursion (λ row. length row ≡ 21) rows.now → IfErr result (λ e. e ≡ Error.SqliteFailure OutOfMemory) }
@@ -184,10 +188,10 @@ fn found_in(alloc: Global, rows: &[Row], number: u64) -> Result<Found, Error>
     let Some(row) = rows.first() else {
         return Ok(Found::Nothing);
     };
-    let Some(kept) = kept_said(alloc, row)? else {
+    let Some(kept) = kept_said(alloc, version, row)? else {
         return Ok(Found::Another);
     };
-    if !is_row_of(rows, number, &kept) {
+    if !is_row_of(rows, version, number, &kept) {
         return Ok(Found::Another);
     }
     well_formed(&kept.entry);
@@ -198,26 +202,27 @@ fn found_in(alloc: Global, rows: &[Row], number: u64) -> Result<Found, Error>
 pub fn found_at<S: Alter>(
     alloc: Global,
     conn: &mut Connection<S>,
+    version: Version,
     number: u64,
 ) -> Result<Found, Error>
     requires { number < 2 ^ 63 }
-    ensures found { Soundly S.Store conn.old conn.new (AllByRecursion (HasForm register_table) ((tables S.Store conn.old).trees 6) → IfOk result (λ found. IsFound ((tables S.Store conn.old).trees 6) number found)) }
-    ensures exact { Soundly S.Store conn.old conn.new ((kept : Pair) → IsRowOf ((tables S.Store conn.old).trees 6) number kept → HasShortNumbers kept.reply → IfOk result (λ found. found ≡ Found.Entry kept)) }
-    ensures nothing { Soundly S.Store conn.old conn.new (IfOk result (λ found. (found ≡ Found.Nothing) ↔ (filter (has_number number) ((tables S.Store conn.old).trees 6) ≡ []))) }
+    ensures found { SoundlyIn S.Store conn.old conn.new (schema_in version) (AllByRecursion (HasForm register_table) ((tables S.Store conn.old).trees (register_tree version)) → IfOk result (λ found. IsFound version ((tables S.Store conn.old).trees (register_tree version)) number found)) }
+    ensures exact { SoundlyIn S.Store conn.old conn.new (schema_in version) ((kept : Pair) → IsRowOf version ((tables S.Store conn.old).trees (register_tree version)) number kept → HasShortNumbers kept.reply → IfOk result (λ found. found ≡ Found.Entry kept)) }
+    ensures nothing { SoundlyIn S.Store conn.old conn.new (schema_in version) (IfOk result (λ found. (found ≡ Found.Nothing) ↔ (filter (has_number number) ((tables S.Store conn.old).trees (register_tree version)) ≡ []))) }
     ensures formed { IfOk result IsFormed }
-    ensures look { Looks S.Store conn.old conn.new result }
-    ensures blame { Soundly S.Store conn.old conn.new (FailsForCause S.Store conn.old conn.new result) }
+    ensures look { LooksIn S.Store conn.old conn.new (schema_in version) result }
+    ensures blame { SoundlyIn S.Store conn.old conn.new (schema_in version) (FailsForCause S.Store conn.old conn.new result) }
 {
     let rows = rows_at(conn, number)?;
-    found_in(alloc, &rows, number)
+    found_in(alloc, &rows, version, number)
 }
 
 /// Whether there is no row below 1, nor above the last.
 pub fn has_no_other<S: Alter>(conn: &mut Connection<S>, count: u64) -> Result<bool, Error>
     requires { count < 2 ^ 63 }
-    ensures none { Soundly S.Store conn.old conn.new (IfOk result (λ ok. IsTrue ok ↔ HasNoOther ((tables S.Store conn.old).trees 6) count)) }
-    ensures look { Looks S.Store conn.old conn.new result }
-    ensures blame { Soundly S.Store conn.old conn.new (FailsForCause S.Store conn.old conn.new result) }
+    ensures none { (version : AnyVersion) → SoundlyIn S.Store conn.old conn.new (schema_in version) (IfOk result (λ ok. IsTrue ok ↔ HasNoOther ((tables S.Store conn.old).trees (register_tree version)) count)) }
+    ensures look { (version : AnyVersion) → LooksIn S.Store conn.old conn.new (schema_in version) result }
+    ensures blame { (version : AnyVersion) → SoundlyIn S.Store conn.old conn.new (schema_in version) (FailsForCause S.Store conn.old conn.new result) }
 {
     if !rows_above(conn, count)?.is_empty() {
         return Ok(false);

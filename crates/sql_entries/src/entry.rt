@@ -1,7 +1,7 @@
 //! The entry that a shown row says.
 ghost use Rattle.std.specs.Prelude.{◌≡◌, ◌≢◌, ◌<◌, length, IfOk, IsOk};
 ghost use Rattle.sqlite_value.specs.Order.{column};
-ghost use Rattle.sqlite_value.specs.declared.value.Value.TheVariants.{Int};
+ghost use Rattle.sqlite_value.specs.declared.value.Value.TheVariants.{Int, Text as Words};
 ghost use Rattle.std.specs.Prelude.{pos};
 ghost use Rattle.std.specs.Prelude.{ℕ, List, IfErr};
 ghost use Rattle.sqlite.specs.declared.error.ErrorCode.TheVariants.{OutOfMemory};
@@ -15,7 +15,7 @@ ghost use Rattle.desk_rules.specs.declared.history.entry.RunRule.{RunRule as Rul
 ghost use Rattle.sql_entries.specs.Columns.{kind_number, number_of_rule};
 ghost use Rattle.sql_tables.specs.Ends.{IsCorrupt};
 ghost use Rattle.sql_entries.specs.Unread.{IsUnread};
-ghost use Rattle.sql_entries.specs.Reading.{Says, SaysMovement, SaysOf, SaysPayment};
+ghost use Rattle.sql_entries.specs.Reading.{Says, SaysMovement, SaysOf, SaysPayment, SaysRun};
 ghost use Rattle.desk_rules.specs.Spelt.{IsMovementSpelt, IsPaymentSpelt, IsSpelt};
 
 use crate::instruction::{instruction_in, type_in};
@@ -131,16 +131,25 @@ fn rule_in(row: &Row) -> Result<RunRule, Error>
     }
 }
 
-fn run_in(row: &Row) -> Result<Entry, Error>
-    ensures says { IfOk result (λ entry. SaysOf 10 row.now entry) }
-    ensures all { (reference day : List ℕ) (rule : Rule) → 15 < length row.now → Says row.now (Run reference day rule) → IsSpelt (Run reference day rule) → IsOk result }
+/// A run of this rule, which a row says by other columns than its reference and its day.
+pub(crate) fn run_of(row: &Row, rule: RunRule) -> Result<Entry, Error>
+    ensures says { IfOk result (λ entry. SaysRun row.now rule entry) }
+    ensures all { (reference day : List ℕ) → 15 < length row.now → column row.now REFERENCE ≡ Words reference → column row.now DAY ≡ Words day → IsSpelt (Run reference day rule) → IsOk result }
     ensures fails { 15 < length row.now → IfErr result IsCorrupt }
 {
     Ok(Entry::Run {
         reference: reference_at(row, REFERENCE)?,
         day: day_at(row, DAY)?,
-        rule: rule_in(row)?,
+        rule,
     })
+}
+
+fn run_in(row: &Row) -> Result<Entry, Error>
+    ensures says { IfOk result (λ entry. SaysOf 10 row.now entry) }
+    ensures all { (reference day : List ℕ) (rule : Rule) → 15 < length row.now → Says row.now (Run reference day rule) → IsSpelt (Run reference day rule) → IsOk result }
+    ensures fails { 15 < length row.now → IfErr result IsCorrupt }
+{
+    run_of(row, rule_in(row)?)
 }
 
 /// The entry of the operator's.

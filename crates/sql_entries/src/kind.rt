@@ -27,5 +27,8 @@ pub const INSTRUCTION: u64 = 8;
 /// A cancellation
 pub const CANCELLATION: u64 = 9;
 
-/// A settlement run
+/// A settlement run; in earlier versions of the file one of one pass
 pub const RUN: u64 = 10;
+
+/// In earlier versions a run in passes
+pub const RUN_IN_PASSES: u64 = 11;

@@ -7,7 +7,7 @@
 //!
 //! `compared.rt` reads the table again, number by number, beside what entries with their replies would write: `found_at`
 //! tells whether the row of a number is that of a well-formed entry with its reply, which it hands out; a row is looked up
-//! once, and compared whole. `has_no_other` tells whether there is a row of another number (specs/Found.antt).
+//! once, and compared whole. So they stand in each version of the file (specs/Told.antt, `told.rt`). `has_no_other` tells whether there is a row of another number (specs/Found.antt).
 #![tactic(auto)]
 
 mod adding;
@@ -22,6 +22,7 @@ mod looking;
 mod opposite;
 mod places;
 mod texts;
+mod told;
 mod values;
 
 pub use adding::add_entry;

@@ -17,7 +17,10 @@ use Rattle.sql_tables.specs.Numbered.{numbered_from, row_with}
 use Rattle.sql_tables.proofs.ByNumberLemmas.{among_made}
 use Rattle.sql_tables.proofs.NumberedLemmas.{each_row, rises}
 use Rattle.sql_tables.proofs.RowLemmas.{same_rows}
-use Rattle.sql_rows.specs.StandingsTold.{wanted, written_of, AreTold, IsTold, SaysStandings, StandsWithin}
+use Rattle.sql_rows.specs.StandingsTold.{as_said, content_as, wanted, written_of, AreTold, IsTold, SaysStandings, StandsWithin}
+use Rattle.desk_rules.specs.Standing.{no_standing}
+use Rattle.sql_tables.specs.declared.versions.Version.{Version}
+use Rattle.sql_tables.specs.declared.versions.Version.TheVariants.{First, Second, Third}
 use Rattle.sql_rows.proofs.StandingRows.{a_row}
 use Rattle.sql_rows.proofs.StandingTable.{row_is}
 
@@ -42,6 +45,17 @@ written_back w some few =
     let make : ℕ → ℕ → ℕ → ℕ → Written = λ m s r n. record { mate = m; state = s; reason = r; asked = n } in
     ap (λ m. make m (state_code state) (reason_code state) asked) (mate_back w.mate) ∙ ap (λ s. make w.mate s (reason_code state) asked) codes.0
     ∙ ap (λ r. make w.mate w.state r asked) codes.1 ∙ ap (λ n. make w.mate w.state w.reason n) (asked_back w.asked few)
+
+-- ---- versions of the file
+
+none_as : (version : Version) → as_said version no_standing ≡ no_standing
+none_as First = refl
+none_as Second = refl
+none_as Third = refl
+
+-- what has no entry stands nowhere, as a version tells it
+pub within_as : (version : Version) (content : Content) → StandsWithin content → StandsWithin (content_as version content)
+within_as version content within n out = ap (as_said version) (within n out) ∙ none_as version
 
 -- ---- the table
 

@@ -1,5 +1,5 @@
 -- The rows of `state` that standings make, and the table beside a content.
-use Rattle.std.specs.Prelude.{◌≡◌, ◌≢◌, ℕ, ◌+◌, ◌<◌, ◌^◌, ◌⊎◌, if◌then◌else◌, List, length, map, Option, Some, None, unwrap_or}
+use Rattle.std.specs.Prelude.{◌≡◌, ◌≢◌, ℕ, ◌+◌, ◌<◌, ◌^◌, ◌⊎◌, false, if◌then◌else◌, List, length, map, Option, Some, None, unwrap_or}
 use Rattle.sqlite.specs.Effect.{Database}
 use Rattle.sqlite.specs.Order.{Row}
 use Rattle.desk_rules.specs.declared.history.standing.State.{State}
@@ -10,6 +10,8 @@ use Rattle.desk_rules.specs.Standing.{no_standing}
 use Rattle.sql_rows.specs.Standings.{columns_of, reason_code, standing_in, standing_written, state_code, AreStandings, Written}
 use Rattle.sql_tables.specs.Whole.{shown_by}
 use Rattle.sql_tables.specs.Numbered.{numbered_from}
+use Rattle.sql_tables.specs.declared.versions.Version.{Version}
+use Rattle.sql_tables.specs.declared.versions.Version.TheVariants.{First, Second, Third}
 
 -- what is written of a standing
 abbrev pub written_of : Standing → Written
@@ -32,6 +34,17 @@ pub record AreTold (standing : ℕ → Standing) (n : ℕ) (rows : List Row) : T
   pub shown : rows ≡ map (shown_by 4) (numbered_from (wanted standing) 0 n)
   pub each : (k : ℕ) → k < n → IsTold (k + 1) (standing (k + 1))
 
+-- ---- versions of the file
+
+-- version 3 alone tells whether a cancellation was requested
+abbrev pub as_said : Version → Standing → Standing
+as_said First s = record s { cancel_requested = false }
+as_said Second s = record s { cancel_requested = false }
+as_said Third s = s
+
+abbrev pub content_as : Version → Content → Content
+content_as version content = record content { standing = λ n. as_said version (content.standing n) }
+
 -- ---- the table
 
 -- what has no entry stands nowhere
@@ -42,3 +55,7 @@ StandsWithin content = (n : ℕ) → (n ≡ 0) ⊎ (length content.register < n)
 pub record SaysStandings (db : Database) (content : Content) : Type 0 where
   pub kept : AreStandings db
   pub each : (n : ℕ) → standing_in db n ≡ content.standing n
+
+-- so it says, as far as a version of the file tells
+abbrev pub SaysStandingsIn : Version → Database → Content → Type 0
+SaysStandingsIn version db content = SaysStandings db (content_as version content)

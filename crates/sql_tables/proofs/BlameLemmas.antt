@@ -327,15 +327,15 @@ module _ (old new : State) (has : old.now.schema ≡ desk_schema) (open' : IsTru
 
 -- ---- a query
 
-module _ (old new : State) (has : old.now.schema ≡ desk_schema) (open' : IsTrue old.is_open) (text : List ℕ) (params : Row) (whole' : IsWhole text (length params)) where
-  pub query_caused : (body : Query) (names : List (List ℕ)) → command_of (understood desk_schema text) ≡ Select (record { lets = []; body = body }) names → reads_listing desk_schema text ≡ false
-      → accepts_program desk_schema [] body params ≡ true → has_no_fold body.from ≡ true → body.group ≡ None → (r : Result (Vec Row Global) Error) → IfErr r (FailsToQuery text params old new) → IfErr r (ForCause old new)
+module _ (schema : Schema) (old new : State) (has : old.now.schema ≡ schema) (open' : IsTrue old.is_open) (text : List ℕ) (params : Row) (whole' : IsWholeIn schema text (length params)) where
+  pub query_caused_in : (body : Query) (names : List (List ℕ)) → command_of (understood schema text) ≡ Select (record { lets = []; body = body }) names → reads_listing schema text ≡ false
+      → accepts_program schema [] body params ≡ true → has_no_fold body.from ≡ true → body.group ≡ None → (r : Result (Vec Row Global) Error) → IfErr r (FailsToQuery text params old new) → IfErr r (ForCause old new)
   unfolding FailsToQuery
-  query_caused body names is unlisted typed from group (Ok rows) h = tt
-  query_caused body names is unlisted typed from group (Err e) h = λ unlimited. go unlimited h
+  query_caused_in body names is unlisted typed from group (Ok rows) h = tt
+  query_caused_in body names is unlisted typed from group (Err e) h = λ unlimited. go unlimited h
     where
       go : old.step_limit ≡ None → FailsToQuery text params old new e → IsCaused old new e
-      go unlimited (inl none) = not_run desk_schema old new has open' text params whole' e none
+      go unlimited (inl none) = not_run schema old new has open' text params whole' e none
       go unlimited (inr h) =
           let known = sym h.1.is ∙ ap (λ s. understood s text) has in
           let bare = subst IsPlain (sym known) whole'.plain in
@@ -347,6 +347,11 @@ module _ (old new : State) (has : old.now.schema ≡ desk_schema) (open' : IsTru
             | inr (inl overflows) ↦ no_sums body from group (overlay it.0.trees []) params overflows.1
             | inr (inr steps) ↦ no_steps old.step_limit unlimited steps.1
           ])
+
+module _ (old new : State) (has : old.now.schema ≡ desk_schema) (open' : IsTrue old.is_open) (text : List ℕ) (params : Row) (whole' : IsWhole text (length params)) where
+  pub query_caused : (body : Query) (names : List (List ℕ)) → command_of (understood desk_schema text) ≡ Select (record { lets = []; body = body }) names → reads_listing desk_schema text ≡ false
+      → accepts_program desk_schema [] body params ≡ true → has_no_fold body.from ≡ true → body.group ≡ None → (r : Result (Vec Row Global) Error) → IfErr r (FailsToQuery text params old new) → IfErr r (ForCause old new)
+  query_caused = query_caused_in desk_schema old new has open' text params whole'
 
   -- ---- a statement that begins or ends a transaction
 

@@ -20,7 +20,7 @@ use Rattle.sqlite.specs.State.{State, mode_of, Writes, Runs, Executes, Shown, Fa
 use Rattle.sqlite.proofs.Callers.{IsPlain, command_of, runs_as, statement_of}
 use Rattle.sql_tables.specs.Schema.{desk_schema}
 use Rattle.sql_tables.specs.Ends.{SaysWhy, Stays, IsSame, FellLooking, FellWriting}
-use Rattle.sql_tables.specs.Statements.{command_in, changes_rows, IsEdit, IsQuery}
+use Rattle.sql_tables.specs.Statements.{command_in, changes_rows, IsEdit, IsQueryIn}
 use Rattle.sql_tables.proofs.EndLemmas.{same_from, stays_same, execute_fell, query_fell, query_why, query_opened, show_same, show_opened}
 
 -- a part that gave a value did not stop on the way
@@ -81,9 +81,9 @@ module _ (old new : State) (text : List ℕ) (params : Row) where
   edit_fell has (Ok count) h = tt
   edit_fell has (Err e) h = λ inside. elim (execute_fell old new text params (Err e) h) [ inl same ↦ inl (stays_same old new has same) | inr undone ↦ inr undone ]
 
-  pub looks : IsQuery text → old.now.schema ≡ desk_schema → (r : Result (Vec Row Global) Error) → IfOk r (λ rows. Shown text params old new rows.items) → OnOk r (IsSame old new)
-  looks query has (Ok rows) h = same_from old new (show_same old new text params rows.items (subst (λ s. IsPlain (understood s text)) (sym has) query.plain) h)
-  looks query has (Err e) h = tt
+  pub looks : (schema : Schema) → IsQueryIn schema text → old.now.schema ≡ schema → (r : Result (Vec Row Global) Error) → IfOk r (λ rows. Shown text params old new rows.items) → OnOk r (IsSame old new)
+  looks schema query has (Ok rows) h = same_from old new (show_same old new text params rows.items (subst (λ s. IsPlain (understood s text)) (sym has) query.plain) h)
+  looks schema query has (Err e) h = tt
 
   pub look_fell : (r : Result (Vec Row Global) Error) → IfErr r (FailsToQuery text params old new) → OnErr r (FellLooking old new)
   look_fell (Ok rows) h = tt

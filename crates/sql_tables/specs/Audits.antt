@@ -5,7 +5,8 @@ use Rattle.sqlite.specs.declared.error.Error.{Error}
 use Rattle.sqlite.specs.Held.{Held, state}
 use Rattle.desk_register.specs.declared.register.Fault.{Fault}
 use Rattle.desk_register.specs.View.{View, IsRead}
-use Rattle.sql_tables.specs.Ends.{ForCause, IsLook}
+use Rattle.sqlite.specs.Schema.{Schema}
+use Rattle.sql_tables.specs.Ends.{ForCause, IsLook, IsLookIn}
 use Rattle.sql_tables.specs.declared.fault.AuditFault.{AuditFault}
 use Rattle.sql_tables.specs.declared.fault.AuditFault.TheVariants.{Register, Tables}
 
@@ -23,6 +24,9 @@ of_register _ = Ok tt
 module _ {S : Type 0} (store : Ghosts S) (old new : Held S) where
   abbrev pub Audits : {X : Type 0} → Result X AuditFault → Type 0
   Audits result = IsLook (of_tables result) (state store old) (state store new)
+
+  abbrev pub AuditsIn : Schema → {X : Type 0} → Result X AuditFault → Type 0
+  AuditsIn schema result = IsLookIn schema (of_tables result) (state store old) (state store new)
 
   -- where the tables gave no answer, they did so for want, or since the device failed in it
   abbrev pub AuditsForCause : {X : Type 0} → Result X AuditFault → Type 0

@@ -4,7 +4,8 @@ use Rattle.sqlite_trees.specs.declared.store.Store.{Ghosts}
 use Rattle.sqlite.specs.declared.error.Error.{Error}
 use Rattle.sqlite.specs.Effect.{Database}
 use Rattle.sqlite.specs.Held.{Held, state}
-use Rattle.sql_tables.specs.Ends.{ForCause, IfSound, IsLook, IsWrite}
+use Rattle.sqlite.specs.Schema.{Schema}
+use Rattle.sql_tables.specs.Ends.{ForCause, IfSound, IfSoundIn, IsLook, IsLookIn, IsWrite}
 
 module _ {S : Type 0} (store : Ghosts S) where
   -- what a connection shows
@@ -15,6 +16,13 @@ module _ {S : Type 0} (store : Ghosts S) where
     -- a fact, where answers over the call are to be trusted
     abbrev pub Soundly : Type 0 → Type 0
     Soundly fact = IfSound (state store old) (state store new) fact
+
+    -- the same over tables of a schema
+    abbrev pub SoundlyIn : Schema → Type 0 → Type 0
+    SoundlyIn schema fact = IfSoundIn schema (state store old) (state store new) fact
+
+    abbrev pub LooksIn : Schema → {X : Type 0} → Result X Error → Type 0
+    LooksIn schema result = IsLookIn schema result (state store old) (state store new)
 
     -- the call only reads, and ends so
     abbrev pub Looks : {X : Type 0} → Result X Error → Type 0

@@ -3,6 +3,7 @@ use Rattle.std.specs.Prelude.{◌≡◌, ◌⊎◌, ℕ, ◌+◌, ◌^◌, ◌�
 use Rattle.sqlite_trees.specs.View.{doubt}
 use Rattle.sqlite_rules.specs.Edit.{IsNoIndex}
 use Rattle.sqlite.specs.Effect.{Database}
+use Rattle.sqlite.specs.Schema.{Schema}
 use Rattle.sqlite.specs.declared.error.Error.{Error}
 use Rattle.sqlite.specs.declared.error.Error.TheVariants.{SqliteFailure}
 use Rattle.sqlite.specs.declared.error.ErrorCode.TheVariants.{DatabaseCorrupt, OutOfMemory, TooBig, NoRowid}
@@ -10,9 +11,13 @@ use Rattle.sqlite.specs.State.{State, HasCleanDisk}
 use Rattle.sql_tables.specs.Schema.{desk_schema}
 
 -- Where answers over a call are to be trusted, this holds: no wrong answer of the device was taken as true up to the
--- call's end, the connection was open at its beginning, and its tables were the desk's.
+-- call's end, the connection was open at its beginning, and its tables were these.
+abbrev pub IfSoundIn : Schema → State → State → Type 0 → Type 0
+IfSoundIn schema old new fact = HasCleanDisk new → IsTrue old.is_open → old.now.schema ≡ schema → fact
+
+-- and they were the desk's
 abbrev pub IfSound : State → State → Type 0 → Type 0
-IfSound old new fact = HasCleanDisk new → IsTrue old.is_open → old.now.schema ≡ desk_schema → fact
+IfSound = IfSoundIn desk_schema
 
 -- a failure that names want of memory, a value too large, or a table with no number left for a row
 abbrev pub IsWant : Error → Type 0
@@ -76,17 +81,24 @@ module _ (old new : State) where
   abbrev pub ForCause : Error → Type 0
   ForCause error = old.step_limit ≡ None → IsCaused error
 
--- how a call ends that only reads
-pub record IsLook {X : Type 0} (result : Result X Error) (old new : State) : Type 0 where
-  pub ok : IfSound old new (OnOk result (IsSame old new))
-  pub err : IfSound old new (OnErr result (FellLooking old new))
-  pub why : IfSound old new (IfErr result (SaysWhy old new))
+-- how a call ends that only reads, over tables of this schema
+pub record IsLookIn (schema : Schema) {X : Type 0} (result : Result X Error) (old new : State) : Type 0 where
+  pub ok : IfSoundIn schema old new (OnOk result (IsSame old new))
+  pub err : IfSoundIn schema old new (OnErr result (FellLooking old new))
+  pub why : IfSoundIn schema old new (IfErr result (SaysWhy old new))
   pub opened : HasCleanDisk new → IsTrue new.is_open → IsTrue old.is_open
   pub later : IsLater old new
 
+-- over the desk's
+abbrev pub IsLook : {X : Type 0} → Result X Error → State → State → Type 0
+IsLook {X = X} result old new = IsLookIn desk_schema {X = X} result old new
+
 -- looks so far, each of which went well: together they are one that did
+abbrev pub HasLookedIn : Schema → State → State → Type 0
+HasLookedIn schema old new = IsLookIn schema {X = ⊤} (Ok tt) old new
+
 abbrev pub HasLooked : State → State → Type 0
-HasLooked old new = IsLook {X = ⊤} (Ok tt) old new
+HasLooked = HasLookedIn desk_schema
 
 -- how a call ends that changes the tables
 pub record IsWrite {X : Type 0} (result : Result X Error) (old new : State) : Type 0 where

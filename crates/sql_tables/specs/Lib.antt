@@ -8,6 +8,7 @@ pub mod Calls
 pub mod CashColumns
 pub mod Rows
 pub mod Version
+pub mod Versions
 pub mod Audits
 pub mod ByNumber
 pub mod Numbered

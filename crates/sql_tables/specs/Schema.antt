@@ -16,7 +16,7 @@ use Rattle.sqlite_value.specs.declared.keys.Order.{Order}
 use Rattle.sqlite_schema.specs.declared.schema.Stamps.{Stamps}
 use Rattle.sql_tables.specs.declared.tables.Holds.{Holds}
 use Rattle.sql_tables.specs.declared.tables.Holds.TheVariants as holds
-use Rattle.sql_tables.specs.declared.tables.TheConstants.{TABLES, INDEXES}
+use Rattle.sql_tables.specs.declared.tables.TheConstants.{TABLES, INDEXES, FIRST_TABLES, FIRST_INDEXES}
 
 -- a column that may have no NULL
 abbrev pub needed : List ℕ → Kind → Column
@@ -105,6 +105,12 @@ desk_tables = map (λ table. table_of table.0.now table.1 (map (λ column. (colu
 abbrev pub desk_indexes : List Index
 desk_indexes = map (λ index. index_of index.0.now index.1 index.2 index.3 index.4) INDEXES
 
+abbrev pub first_tables : List Table
+first_tables = map (λ table. table_of table.0.now table.1 (map (λ column. (column.0.now, column.1)) table.2.now) table.3) FIRST_TABLES
+
+abbrev pub first_indexes : List Index
+first_indexes = map (λ index. index_of index.0.now index.1 index.2 index.3 index.4) FIRST_INDEXES
+
 abbrev pub table_at : ℕ → Table
 table_at place = slice_index_or desk_tables place (table_of [] 0 [] None)
 
@@ -129,8 +135,19 @@ sent_table = table_at 5
 abbrev pub version_table : Table
 version_table = table_at 6
 
+-- the tables of version 1
+abbrev pub first_register_table : Table
+first_register_table = slice_index_or first_tables 0 (table_of [] 0 [] None)
+
+abbrev pub first_version_table : Table
+first_version_table = slice_index_or first_tables 1 (table_of [] 0 [] None)
+
 abbrev pub desk_schema : Schema
 desk_schema = record { tables = desk_tables; indexes = desk_indexes; views = [] }
+
+-- those of version 1
+abbrev pub first_schema : Schema
+first_schema = record { tables = first_tables; indexes = first_indexes; views = [] }
 
 -- of a database in which no table was made
 abbrev pub no_schema : Schema

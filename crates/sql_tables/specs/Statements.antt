@@ -6,6 +6,7 @@ use Rattle.sqlite_schema.specs.declared.command.Command.{Command}
 use Rattle.sqlite_schema.specs.declared.command.Command.TheVariants.{Select, Insert, Update, Delete, Nothing}
 use Rattle.sqlite.specs.Given.{IsPlain}
 use Rattle.sqlite.specs.Listing.{understood, reads_listing}
+use Rattle.sqlite.specs.Schema.{Schema}
 use Rattle.sql_tables.specs.Schema.{desk_schema}
 
 abbrev pub command_in : Result Compiled CompileError → Command
@@ -27,8 +28,11 @@ pub record IsEdit (text : List ℕ) : Type 0 where
   pub changes : IsTrue (changes_rows (command_in (understood desk_schema text)))
   pub plain : IsPlain (understood desk_schema text)
 
--- one query, of rows and not of the list of tables
-pub record IsQuery (text : List ℕ) : Type 0 where
-  pub selects : IsTrue (selects (command_in (understood desk_schema text)))
-  pub plain : IsPlain (understood desk_schema text)
-  pub unlisted : reads_listing desk_schema text ≡ false
+-- one query of tables of a schema, of rows and not of the list of tables
+pub record IsQueryIn (schema : Schema) (text : List ℕ) : Type 0 where
+  pub selects : IsTrue (selects (command_in (understood schema text)))
+  pub plain : IsPlain (understood schema text)
+  pub unlisted : reads_listing schema text ≡ false
+
+abbrev pub IsQuery : List ℕ → Type 0
+IsQuery = IsQueryIn desk_schema

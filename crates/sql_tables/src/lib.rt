@@ -9,7 +9,7 @@
 //! The crate of a table compares it with a register in memory too (`compared.rt` there), by what stands here. `AuditFault`
 //! in `fault.rt` tells why a comparison gave no answer, and specs/Audits.antt how one ends, for the tables and for the
 //! register. `same_row` in `compared.rt` compares a row that is shown with values as they are bound, and `has_version` the
-//! table `version` with this version. specs/Order.antt and Forms.antt say what the rows of a file are that was opened. A
+//! table `version` with a version of the file (`versions.rt`). specs/Order.antt and Forms.antt say what the rows of a file are that was opened. A
 //! table of numbered rows is computed, number by number (specs/Numbered.antt), and proofs/RowLemmas.antt says when what a
 //! query shows makes it the table, ByNumberLemmas.antt when look-ups of each number do (specs/ByNumber.antt).
 #![tactic(auto)]
@@ -23,3 +23,4 @@ pub mod statement;
 pub mod tables;
 pub mod values;
 pub mod version;
+pub mod versions;

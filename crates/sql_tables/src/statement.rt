@@ -5,8 +5,9 @@ ghost use Rattle.sqlite.specs.State.{HasCleanDisk, Executes, Shown, FailsToQuery
 ghost use Rattle.sqlite.specs.Effect.{IsDatabase};
 ghost use Rattle.sqlite.specs.Held.{state};
 ghost use Rattle.sqlite.specs.Values.{bound};
-ghost use Rattle.sql_tables.specs.Statements.{IsEdit, IsQuery};
-ghost use Rattle.sql_tables.specs.Calls.{Looks, Writes, tables};
+ghost use Rattle.sqlite.specs.Schema.{Schema};
+ghost use Rattle.sql_tables.specs.Statements.{IsEdit, IsQuery, IsQueryIn};
+ghost use Rattle.sql_tables.specs.Calls.{Looks, LooksIn, Writes, tables};
 
 use sqlite::types::ValueRef;
 use sqlite::{Alter, Connection, Error, Row};
@@ -26,7 +27,20 @@ pub fn execute<S: Alter>(
     conn.execute(text, params)
 }
 
-/// The rows that a query shows.
+/// The rows that a query shows, whichever tables there are.
+pub fn query_of<S: Alter>(
+    conn: &mut Connection<S>,
+    text: &str,
+    params: &[ValueRef<'_>],
+) -> Result<Vec<Row>, Error>
+    ensures shown { HasCleanDisk (state S.Store conn.new) → IfOk result (λ rows. Shown text.now (bound params.now) (state S.Store conn.old) (state S.Store conn.new) rows.items) }
+    ensures fails { HasCleanDisk (state S.Store conn.new) → IfErr result (FailsToQuery text.now (bound params.now) (state S.Store conn.old) (state S.Store conn.new)) }
+    ensures look { (schema : Schema) → IsQueryIn schema text.now → LooksIn S.Store conn.old conn.new schema result }
+{
+    conn.query_all(text, params)
+}
+
+/// The rows that a query of the desk's tables shows.
 pub fn query<S: Alter>(
     conn: &mut Connection<S>,
     text: &str,
@@ -37,5 +51,5 @@ pub fn query<S: Alter>(
     ensures fails { HasCleanDisk (state S.Store conn.new) → IfErr result (FailsToQuery text.now (bound params.now) (state S.Store conn.old) (state S.Store conn.new)) }
     ensures look { Looks S.Store conn.old conn.new result }
 {
-    conn.query_all(text, params)
+    query_of(conn, text, params)
 }

@@ -146,6 +146,15 @@ pub const INDEXES: [Index<'static>; 4] = [
     ("sqlite_autoindex_register_1", 7, 6, 2, 3),
 ];
 
+/// The tables of version 1, in their order.
+pub const FIRST_TABLES: [Table<'static>; 2] = [
+    ("register", 0, &REGISTER, Some((2, 3))),
+    ("version", 2, &VERSION, None),
+];
+
+/// The index of its key.
+pub const FIRST_INDEXES: [Index<'static>; 1] = [("sqlite_autoindex_register_1", 1, 0, 2, 3)];
+
 /// What makes `balance`
 pub const MAKES_BALANCE: &str = balance!(statement);
 

@@ -7,16 +7,16 @@ ghost use Rattle.desk_register.specs.View.{IfTrusted, IsLater};
 ghost use Rattle.desk_engine.specs.KeptHistory.{HoldsKept};
 ghost use Rattle.desk_rules.specs.declared.limits.TheConstants.{MOST_ENTRIES};
 ghost use Rattle.desk_rules.specs.Content.{Content};
-ghost use Rattle.sql_tables.specs.Calls.{Soundly, tables};
+ghost use Rattle.sql_tables.specs.Calls.{SoundlyIn, tables};
 ghost use Rattle.sql_tables.specs.Ends.{IsSame};
 ghost use Rattle.sql_tables.specs.Making.{KeepsCommitted};
 ghost use Rattle.sql_tables.specs.Schema.{desk_schema};
-ghost use Rattle.sql_tables.specs.Forms.{AreAllFormed};
+ghost use Rattle.sql_tables.specs.Versions.{schema_in, AreAllFormedIn};
 ghost use Rattle.sql_tables.specs.Order.{AreInOrder};
-ghost use Rattle.sql_tables.specs.Audits.{of_register, Audits, AuditsForCause};
+ghost use Rattle.sql_tables.specs.Audits.{of_register, Audits, AuditsForCause, AuditsIn};
 ghost use Rattle.desk_file.specs.Reading.{HoldsFormed};
 ghost use Rattle.desk_file.specs.Taking.{BlamesTaking};
-ghost use Rattle.desk_file.specs.Audited.{IsAudited, IsFilled};
+ghost use Rattle.desk_file.specs.Audited.{HoldsVersion, IsAudited, IsFilled};
 
 use crate::audit::progress::Progress;
 use crate::audit::register::{Reading, read_register};
@@ -25,6 +25,7 @@ use crate::schema::ours::has_desk_tables;
 use desk_register::{Messages, Stage};
 use sql_tables::compared::has_version;
 use sql_tables::fault::AuditFault;
+use sql_tables::versions::Version;
 use sqlite::{Alter, Connection};
 use std::alloc::Global;
 
@@ -49,36 +50,75 @@ pub enum Audited {
 fn fill<S: Alter, R: Messages, P: Progress>(
     alloc: Global,
     conn: &mut Connection<S>,
+    version: Version,
     register: &mut R,
     progress: &mut P,
 ) -> Result<Audited, AuditFault>
     requires stage { (R.Register.view register.old).stage ≡ Stage.Idle }
     requires empty { IfTrusted (R.Register.view register.old) (R.Register.view register.old) (HoldsKept (R.Register.view register.old).room [] (R.Register.view register.old).content) }
-    ensures filled { Soundly S.Store conn.old conn.new (IfTrusted (R.Register.view register.old) (R.Register.view register.new)
-        (AreInOrder desk_schema (tables S.Store conn.old).trees → AreAllFormed (tables S.Store conn.old).trees
-        → IfOk result (λ audited. audited ≡ Audited.Whole → IsFilled (tables S.Store conn.old) (R.Register.view register.old).room (R.Register.view register.new).content))) }
+    ensures filled { SoundlyIn S.Store conn.old conn.new (schema_in version) (IfTrusted (R.Register.view register.old) (R.Register.view register.new)
+        (AreInOrder (schema_in version) (tables S.Store conn.old).trees → AreAllFormedIn version (tables S.Store conn.old).trees
+        → IfOk result (λ audited. audited ≡ Audited.Whole → IsFilled version (tables S.Store conn.old) (R.Register.view register.old).room (R.Register.view register.new).content))) }
     ensures holds { IfTrusted (R.Register.view register.old) (R.Register.view register.new) (IfOk result (λ audited. audited ≡ Audited.Whole → HoldsFormed (R.Register.view register.old).room (R.Register.view register.new).content)) }
-    ensures exact { Soundly S.Store conn.old conn.new (IfTrusted (R.Register.view register.old) (R.Register.view register.new)
-        ((content : Content) → IsFilled (tables S.Store conn.old) (R.Register.view register.old).room content → IfOk result (λ audited. audited ≡ Audited.Whole))) }
+    ensures exact { SoundlyIn S.Store conn.old conn.new (schema_in version) (IfTrusted (R.Register.view register.old) (R.Register.view register.new)
+        ((content : Content) → IsFilled version (tables S.Store conn.old) (R.Register.view register.old).room content → IfOk result (λ audited. audited ≡ Audited.Whole))) }
     ensures not_other { IfOk result (λ audited. audited ≢ Audited.OtherTables) }
-    ensures look { Audits S.Store conn.old conn.new result }
-    ensures cause { Soundly S.Store conn.old conn.new (IfTrusted (R.Register.view register.old) (R.Register.view register.new)
-        (AreInOrder desk_schema (tables S.Store conn.old).trees → AreAllFormed (tables S.Store conn.old).trees → AuditsForCause S.Store conn.old conn.new result)) }
+    ensures look { AuditsIn S.Store conn.old conn.new (schema_in version) result }
+    ensures cause { SoundlyIn S.Store conn.old conn.new (schema_in version) (IfTrusted (R.Register.view register.old) (R.Register.view register.new)
+        (AreInOrder (schema_in version) (tables S.Store conn.old).trees → AreAllFormedIn version (tables S.Store conn.old).trees → AuditsForCause S.Store conn.old conn.new result)) }
     ensures done { OnOk result (IsDone (R.Register.view register.old) (R.Register.view register.new)) }
     ensures later { IsLater (R.Register.view register.old) (R.Register.view register.new) }
     ensures blame { R.Register.in_memory ≡ true → BlamesTaking (of_register result) (R.Register.view register.old) (R.Register.view register.new) }
 {
-    match read_register(alloc, conn, register, progress)? {
+    match read_register(alloc, conn, version, register, progress)? {
         Reading::Whole => {}
         Reading::Stops(number) => return Ok(Audited::OtherEntry(number)),
     }
-    match first_other(alloc, conn, register)? {
+    match first_other(alloc, conn, version, register)? {
         Some(table) => Ok(Audited::Differs(table)),
         None => Ok(Audited::Whole),
     }
 }
 
-/// Audits a database, and fills a register that holds nothing from it. One that is that of an accepted history is found whole.
+/// Audits a database as one of a version of the file, and fills a register that holds nothing from it. One that is that of an accepted history is found whole.
+/// What is found whole, with its rows in order, is that of one, and the register holds its content; that it holds some accepted
+/// history rests on no answer of the tables. Else, and after a fault, the register should be given up. `progress` is told how
+/// many entries are taken in.
+pub fn audit_version<S: Alter, R: Messages, P: Progress>(
+    alloc: Global,
+    conn: &mut Connection<S>,
+    version: Version,
+    register: &mut R,
+    progress: &mut P,
+) -> Result<Audited, AuditFault>
+    requires stage { (R.Register.view register.old).stage ≡ Stage.Idle }
+    requires empty { IfTrusted (R.Register.view register.old) (R.Register.view register.old) (HoldsKept (R.Register.view register.old).room [] (R.Register.view register.old).content) }
+    ensures whole { HasCleanDisk (state S.Store conn.new) → IsTrue (state S.Store conn.old).is_open → IfTrusted (R.Register.view register.old) (R.Register.view register.new)
+        (AreInOrder (tables S.Store conn.old).schema (tables S.Store conn.old).trees
+        → IfOk result (λ audited. audited ≡ Audited.Whole → HoldsVersion version (tables S.Store conn.old) (R.Register.view register.old).room (R.Register.view register.new).content)) }
+    ensures holds { IfTrusted (R.Register.view register.old) (R.Register.view register.new) (IfOk result (λ audited. audited ≡ Audited.Whole → HoldsFormed (R.Register.view register.old).room (R.Register.view register.new).content)) }
+    ensures same { HasCleanDisk (state S.Store conn.new) → IsTrue (state S.Store conn.old).is_open → OnOk result (IsSame (state S.Store conn.old) (state S.Store conn.new)) }
+    ensures exact { HasCleanDisk (state S.Store conn.new) → IsTrue (state S.Store conn.old).is_open → IfTrusted (R.Register.view register.old) (R.Register.view register.new)
+        ((content : Content) → HoldsVersion version (tables S.Store conn.old) (R.Register.view register.old).room content → IfOk result (λ audited. audited ≡ Audited.Whole)) }
+    ensures kept { HasCleanDisk (state S.Store conn.new) → IsTrue (state S.Store conn.old).is_open → KeepsCommitted (state S.Store conn.old) (state S.Store conn.new) }
+    ensures other_tables { IfOk result (λ audited. audited ≡ Audited.OtherTables → (tables S.Store conn.old).schema ≢ schema_in version) }
+    ensures look { AuditsIn S.Store conn.old conn.new (schema_in version) result }
+    ensures cause { HasCleanDisk (state S.Store conn.new) → IsTrue (state S.Store conn.old).is_open → IfTrusted (R.Register.view register.old) (R.Register.view register.new)
+        (AreInOrder (tables S.Store conn.old).schema (tables S.Store conn.old).trees → AuditsForCause S.Store conn.old conn.new result) }
+    ensures done { OnOk result (IsDone (R.Register.view register.old) (R.Register.view register.new)) }
+    ensures later { IsLater (R.Register.view register.old) (R.Register.view register.new) }
+    ensures blame { R.Register.in_memory ≡ true → BlamesTaking (of_register result) (R.Register.view register.old) (R.Register.view register.new) }
+{
+    if !has_desk_tables(conn, version) {
+        return Ok(Audited::OtherTables);
+    }
+    if !has_version(conn, version)? {
+        return Ok(Audited::OtherVersion);
+    }
+    fill(alloc, conn, version, register, progress)
+}
+
+/// Audits a database as one that this program writes, and fills a register that holds nothing from it. One that is that of an accepted history is found whole.
 /// What is found whole, with its rows in order, is that of one, and the register holds its content; that it holds some accepted
 /// history rests on no answer of the tables. Else, and after a fault, the register should be given up. `progress` is told how
 /// many entries are taken in.
@@ -106,11 +146,5 @@ pub fn audit<S: Alter, R: Messages, P: Progress>(
     ensures later { IsLater (R.Register.view register.old) (R.Register.view register.new) }
     ensures blame { R.Register.in_memory ≡ true → BlamesTaking (of_register result) (R.Register.view register.old) (R.Register.view register.new) }
 {
-    if !has_desk_tables(conn) {
-        return Ok(Audited::OtherTables);
-    }
-    if !has_version(conn)? {
-        return Ok(Audited::OtherVersion);
-    }
-    fill(alloc, conn, register, progress)
+    audit_version(alloc, conn, Version::Third, register, progress)
 }

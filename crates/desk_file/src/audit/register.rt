@@ -6,15 +6,17 @@ ghost use Rattle.desk_register.specs.View.{IfTrusted, IsLater};
 ghost use Rattle.desk_engine.specs.KeptHistory.{CanBeKept, HoldsKept};
 ghost use Rattle.desk_rules.specs.declared.answers.reply.Kept.{Kept};
 ghost use Rattle.desk_rules.specs.Content.{Content};
-ghost use Rattle.sql_tables.specs.Calls.{FailsForCause, Looks, Soundly, tables};
-ghost use Rattle.sql_tables.specs.Schema.{desk_schema, register_table};
-ghost use Rattle.sql_tables.specs.Forms.{AreAllFormed, HasForm};
+ghost use Rattle.sql_tables.specs.Calls.{FailsForCause, LooksIn, SoundlyIn, tables};
+ghost use Rattle.sql_tables.specs.Schema.{register_table};
+ghost use Rattle.sql_tables.specs.Forms.{HasForm};
 ghost use Rattle.sql_tables.specs.Order.{AreInOrder};
-ghost use Rattle.sql_tables.specs.Audits.{of_register, Audits, AuditsForCause};
+ghost use Rattle.sql_tables.specs.Audits.{of_register, AuditsForCause, AuditsIn};
 ghost use Rattle.sql_tables.specs.ByNumber.{has_number, HasNoOther};
+ghost use Rattle.sql_tables.specs.Versions.{register_tree, schema_in, AreAllFormedIn};
+ghost use Rattle.sql_tables.specs.declared.versions.Version.{Version as AnyVersion};
 ghost use Rattle.sql_entries.specs.Found.{IsRowOf};
 ghost use Rattle.sql_entries.specs.Shown.{HasShortNumbers};
-ghost use Rattle.desk_file.specs.Reading.{HoldsFormed, IsRead, TakesRow};
+ghost use Rattle.desk_file.specs.Reading.{HoldsFormed, IsReadIn, TakesRow};
 ghost use Rattle.desk_file.specs.Taking.{BlamesTaking};
 
 use crate::audit::progress::Progress;
@@ -23,6 +25,7 @@ use desk_register::{Register, Stage};
 use sql_entries::{Found, found_at, has_no_other};
 use sql_tables::compared::MOST;
 use sql_tables::fault::AuditFault;
+use sql_tables::versions::Version;
 use sqlite::{Alter, Connection, Error};
 use std::alloc::Global;
 
@@ -51,28 +54,29 @@ pub enum Step {
 fn read_entry<S: Alter, R: Register>(
     alloc: Global,
     conn: &mut Connection<S>,
+    version: Version,
     register: &mut R,
     number: u64,
 ) -> Result<Step, AuditFault>
     requires number { number < 2 ^ 63 }
     requires stage { (R.view register.old).stage ≡ Stage.Idle }
     requires holds { IfTrusted (R.view register.old) (R.view register.old) (HoldsFormed (R.view register.old).room (R.view register.old).content) }
-    ensures takes { Soundly S.Store conn.old conn.new (IfTrusted (R.view register.old) (R.view register.new) (AllByRecursion (HasForm register_table) ((tables S.Store conn.old).trees 6)
+    ensures takes { SoundlyIn S.Store conn.old conn.new (schema_in version) (IfTrusted (R.view register.old) (R.view register.new) (AllByRecursion (HasForm register_table) ((tables S.Store conn.old).trees (register_tree version))
         → HoldsKept (R.view register.old).room (R.view register.old).content.register (R.view register.old).content
-        → IfOk result (λ step. step ≡ Step.Taken → TakesRow ((tables S.Store conn.old).trees 6) number (R.view register.old).room (R.view register.old).content (R.view register.new).content))) }
+        → IfOk result (λ step. step ≡ Step.Taken → TakesRow version ((tables S.Store conn.old).trees (register_tree version)) number (R.view register.old).room (R.view register.old).content (R.view register.new).content))) }
     ensures holds { IfTrusted (R.view register.old) (R.view register.new) (IfOk result (λ step. step ≡ Step.Taken → HoldsFormed (R.view register.old).room (R.view register.new).content)) }
-    ensures exact { Soundly S.Store conn.old conn.new (IfTrusted (R.view register.old) (R.view register.new) ((kept : Kept) → IsRowOf ((tables S.Store conn.old).trees 6) number kept → HasShortNumbers kept.reply
+    ensures exact { SoundlyIn S.Store conn.old conn.new (schema_in version) (IfTrusted (R.view register.old) (R.view register.new) ((kept : Kept) → IsRowOf version ((tables S.Store conn.old).trees (register_tree version)) number kept → HasShortNumbers kept.reply
         → CanBeKept (R.view register.old).room ((R.view register.old).content.register ++ kept ∷ [])
         → IfOk result (λ step. (step ≡ Step.Taken) × HoldsKept (R.view register.old).room ((R.view register.old).content.register ++ kept ∷ []) (R.view register.new).content))) }
-    ensures nothing { Soundly S.Store conn.old conn.new (IfOk result (λ step. (step ≡ Step.Nothing) ↔ (filter (has_number number) ((tables S.Store conn.old).trees 6) ≡ []))) }
+    ensures nothing { SoundlyIn S.Store conn.old conn.new (schema_in version) (IfOk result (λ step. (step ≡ Step.Nothing) ↔ (filter (has_number number) ((tables S.Store conn.old).trees (register_tree version)) ≡ []))) }
     ensures same { IfTrusted (R.view register.old) (R.view register.new) (IfOk result (λ step. step ≡ Step.Nothing → (R.view register.new).content ≡ (R.view register.old).content)) }
-    ensures look { Audits S.Store conn.old conn.new result }
+    ensures look { AuditsIn S.Store conn.old conn.new (schema_in version) result }
     ensures done { OnOk result (IsDone (R.view register.old) (R.view register.new)) }
     ensures later { IsLater (R.view register.old) (R.view register.new) }
-    ensures cause { Soundly S.Store conn.old conn.new (AuditsForCause S.Store conn.old conn.new result) }
+    ensures cause { SoundlyIn S.Store conn.old conn.new (schema_in version) (AuditsForCause S.Store conn.old conn.new result) }
     ensures blame { R.in_memory ≡ true → BlamesTaking (of_register result) (R.view register.old) (R.view register.new) }
 {
-    match found_at(alloc, conn, number)? {
+    match found_at(alloc, conn, version, number)? {
         Found::Nothing => Ok(Step::Nothing),
         Found::Another => Ok(Step::Another),
         Found::Entry(kept) => {
@@ -88,9 +92,9 @@ fn read_entry<S: Alter, R: Register>(
 /// What the table comes to behind so many entries: whether there is no other row.
 fn read_end<S: Alter>(conn: &mut Connection<S>, count: u64) -> Result<Reading, Error>
     requires { count < 2 ^ 63 }
-    ensures none { Soundly S.Store conn.old conn.new (IfOk result (λ reading. (reading ≡ Reading.Whole) ↔ HasNoOther ((tables S.Store conn.old).trees 6) count)) }
-    ensures look { Looks S.Store conn.old conn.new result }
-    ensures cause { Soundly S.Store conn.old conn.new (FailsForCause S.Store conn.old conn.new result) }
+    ensures none { (version : AnyVersion) → SoundlyIn S.Store conn.old conn.new (schema_in version) (IfOk result (λ reading. (reading ≡ Reading.Whole) ↔ HasNoOther ((tables S.Store conn.old).trees (register_tree version)) count)) }
+    ensures look { (version : AnyVersion) → LooksIn S.Store conn.old conn.new (schema_in version) result }
+    ensures cause { (version : AnyVersion) → SoundlyIn S.Store conn.old conn.new (schema_in version) (FailsForCause S.Store conn.old conn.new result) }
 {
     if has_no_other(conn, count)? {
         Ok(Reading::Whole)
@@ -99,31 +103,32 @@ fn read_end<S: Alter>(conn: &mut Connection<S>, count: u64) -> Result<Reading, E
     }
 }
 
-/// Reads the table `register` from its first entry to its last and takes each into a register that holds nothing. It is whole
+/// Reads the table `register` of a version of the file from its first entry to its last and takes each into a register that holds nothing. It is whole
 /// where it is an accepted history of well-formed entries, and exactly the list that the register holds then. Else, and after a
 /// fault, the register should be given up: it holds the entries so far, and the last one that was read with the reply that it
 /// gets.
 pub fn read_register<S: Alter, R: Register, P: Progress>(
     alloc: Global,
     conn: &mut Connection<S>,
+    version: Version,
     register: &mut R,
     progress: &mut P,
 ) -> Result<Reading, AuditFault>
     requires stage { (R.view register.old).stage ≡ Stage.Idle }
     requires empty { IfTrusted (R.view register.old) (R.view register.old) (HoldsKept (R.view register.old).room [] (R.view register.old).content) }
-    ensures entries { Soundly S.Store conn.old conn.new (IfTrusted (R.view register.old) (R.view register.new) (AreInOrder desk_schema (tables S.Store conn.old).trees → AreAllFormed (tables S.Store conn.old).trees
-        → IfOk result (λ reading. reading ≡ Reading.Whole → IsRead (tables S.Store conn.old) (R.view register.old).room (R.view register.new).content))) }
+    ensures entries { SoundlyIn S.Store conn.old conn.new (schema_in version) (IfTrusted (R.view register.old) (R.view register.new) (AreInOrder (schema_in version) (tables S.Store conn.old).trees → AreAllFormedIn version (tables S.Store conn.old).trees
+        → IfOk result (λ reading. reading ≡ Reading.Whole → IsReadIn version (tables S.Store conn.old) (R.view register.old).room (R.view register.new).content))) }
     ensures holds { IfTrusted (R.view register.old) (R.view register.new) (IfOk result (λ reading. reading ≡ Reading.Whole → HoldsFormed (R.view register.old).room (R.view register.new).content)) }
-    ensures exact { Soundly S.Store conn.old conn.new (IfTrusted (R.view register.old) (R.view register.new) ((content : Content) → IsRead (tables S.Store conn.old) (R.view register.old).room content
+    ensures exact { SoundlyIn S.Store conn.old conn.new (schema_in version) (IfTrusted (R.view register.old) (R.view register.new) ((content : Content) → IsReadIn version (tables S.Store conn.old) (R.view register.old).room content
         → IfOk result (λ reading. (reading ≡ Reading.Whole) × ((R.view register.new).content.register ≡ content.register)))) }
-    ensures look { Audits S.Store conn.old conn.new result }
+    ensures look { AuditsIn S.Store conn.old conn.new (schema_in version) result }
     ensures done { OnOk result (IsDone (R.view register.old) (R.view register.new)) }
     ensures later { IsLater (R.view register.old) (R.view register.new) }
-    ensures cause { Soundly S.Store conn.old conn.new (AuditsForCause S.Store conn.old conn.new result) }
+    ensures cause { SoundlyIn S.Store conn.old conn.new (schema_in version) (AuditsForCause S.Store conn.old conn.new result) }
     ensures blame { R.in_memory ≡ true → BlamesTaking (of_register result) (R.view register.old) (R.view register.new) }
 {
     for before in 0..MOST {
-        match read_entry(alloc, conn, register, before + 1)? {
+        match read_entry(alloc, conn, version, register, before + 1)? {
             Step::Taken => progress.taken(before + 1),
             Step::Another => return Ok(Reading::Stops(before + 1)),
             Step::Nothing => {

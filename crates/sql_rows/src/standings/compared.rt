@@ -11,7 +11,7 @@ ghost use Rattle.sql_tables.specs.Order.{AreInOrder};
 ghost use Rattle.sql_rows.specs.Standings.{columns_of};
 ghost use Rattle.sql_tables.specs.Audits.{of_register, Audits, AuditsForCause, Consults};
 ghost use Rattle.sql_tables.specs.Whole.{shown_by};
-ghost use Rattle.sql_rows.specs.StandingsTold.{written_of, AreTold, IsTold, SaysStandings, StandsWithin};
+ghost use Rattle.sql_rows.specs.StandingsTold.{written_of, AreTold, IsTold, SaysStandingsIn, StandsWithin, as_said};
 
 use crate::standings::states::{reason_code, state_code};
 use desk_register::{Fault, Register, Stage};
@@ -20,6 +20,7 @@ use sql_tables::compared::MOST;
 use sql_tables::fault::AuditFault;
 use sql_tables::rows::number_at;
 use sql_tables::statement::query;
+use sql_tables::versions::Version;
 use sqlite::{Alter, Connection, Error, Row};
 use std::alloc::Global;
 
@@ -69,15 +70,29 @@ fn is_row(row: &Row, number: u64, standing: &Standing) -> bool
         && has_at(row, 4, if standing.cancel_requested { 1 } else { 0 })
 }
 
+/// What a version of the file tells of a standing.
+fn said_by(version: Version, standing: Standing) -> Standing
+    ensures { result ≡ as_said version standing }
+{
+    match version {
+        Version::First | Version::Second => Standing {
+            cancel_requested: false,
+            ..standing
+        },
+        Version::Third => standing,
+    }
+}
+
 /// Whether rows show where the first entries of a register stand, in order of their numbers, and nothing else.
 fn standings_told<R: Register>(
     alloc: Global,
+    version: Version,
     register: &mut R,
     count: u64,
     rows: &[Row],
 ) -> Result<bool, Fault>
     requires stage { (R.view register.old).stage ≡ Stage.Idle }
-    ensures told { IfTrusted (R.view register.old) (R.view register.new) (IfOk result (λ all. IsTrue all ↔ AreTold (R.view register.old).content.standing count rows.now)) }
+    ensures told { IfTrusted (R.view register.old) (R.view register.new) (IfOk result (λ all. IsTrue all ↔ AreTold (λ n. as_said version ((R.view register.old).content.standing n)) count rows.now)) }
     ensures read { IsRead result (R.view register.old) (R.view register.new) }
     ensures in_memory { R.in_memory ≡ true → IsOk result }
 {
@@ -85,6 +100,7 @@ fn standings_told<R: Register>(
     for before in 0..count {
         let number = before + 1;
         let standing = register.standing(alloc, number)?;
+        let standing = said_by(version, standing);
         if !is_told(number, &standing) {
             return Ok(false);
         }
@@ -107,35 +123,41 @@ fn standings_told<R: Register>(
 }
 
 /// Whether shown rows tell where each entry of a register stands.
-fn rows_told<R: Register>(alloc: Global, register: &mut R, rows: &[Row]) -> Result<bool, Fault>
+fn rows_told<R: Register>(
+    alloc: Global,
+    version: Version,
+    register: &mut R,
+    rows: &[Row],
+) -> Result<bool, Fault>
     requires stage { (R.view register.old).stage ≡ Stage.Idle }
-    ensures told { IfTrusted (R.view register.old) (R.view register.new) (IfOk result (λ all. IsTrue all ↔ AreTold (R.view register.old).content.standing (length (R.view register.old).content.register) rows.now)) }
+    ensures told { IfTrusted (R.view register.old) (R.view register.new) (IfOk result (λ all. IsTrue all ↔ AreTold (λ n. as_said version ((R.view register.old).content.standing n)) (length (R.view register.old).content.register) rows.now)) }
     ensures read { IsRead result (R.view register.old) (R.view register.new) }
     ensures in_memory { R.in_memory ≡ true → IsOk result }
 {
     let count = register.count(alloc)?;
-    standings_told(alloc, register, count, rows)
+    standings_told(alloc, version, register, count, rows)
 }
 
-/// Whether the table `state` says of each entry of a register where it stands, as the register does, and nothing else. It
-/// reads the whole table, and asks the register of each number.
+/// Whether the table `state` says of each entry of a register where it stands, as the register does, and nothing else, as far as
+/// a version of the file tells. It reads the whole table, and asks the register of each number.
 pub fn has_standings<S: Alter, R: Register>(
     alloc: Global,
     conn: &mut Connection<S>,
+    version: Version,
     register: &mut R,
 ) -> Result<bool, AuditFault>
     requires stage { (R.view register.old).stage ≡ Stage.Idle }
     ensures says { Soundly S.Store conn.old conn.new (IfTrusted (R.view register.old) (R.view register.new)
         (AreInOrder desk_schema (tables S.Store conn.old).trees → AreAllFormed (tables S.Store conn.old).trees → StandsWithin (R.view register.old).content
-        → IfOk result (λ all. IsTrue all → SaysStandings (tables S.Store conn.old) (R.view register.old).content))) }
+        → IfOk result (λ all. IsTrue all → SaysStandingsIn version (tables S.Store conn.old) (R.view register.old).content))) }
     ensures exact { Soundly S.Store conn.old conn.new (IfTrusted (R.view register.old) (R.view register.new)
-        (StandsWithin (R.view register.old).content → IfOk result (λ all. SaysStandings (tables S.Store conn.old) (R.view register.old).content → IsTrue all))) }
+        (StandsWithin (R.view register.old).content → IfOk result (λ all. SaysStandingsIn version (tables S.Store conn.old) (R.view register.old).content → IsTrue all))) }
     ensures look { Audits S.Store conn.old conn.new result }
     ensures blame { Soundly S.Store conn.old conn.new (AuditsForCause S.Store conn.old conn.new result) }
     ensures read { Consults result (R.view register.old) (R.view register.new) }
     ensures in_memory { R.in_memory ≡ true → IsOk (of_register result) }
 {
     let rows = rows_of(conn)?;
-    let told = rows_told(alloc, register, &rows)?;
+    let told = rows_told(alloc, version, register, &rows)?;
     Ok(told)
 }

@@ -13,5 +13,5 @@ returns-clause-exact c number kept is formed short =
     let entry : c.in-Some.entry ≡ kept.entry =
     (let e = c.in_ok-entry.ensures.exact kept.entry (behind number kept) is (formed_spelt kept.entry formed) in let some = c.in-Some.is in cc) in
     let reply : c.in-Some-2.reply ≡ kept.reply =
-    (let e = c.in_ok-reply.ensures.exact kept.reply (wide row number kept is) (says_its_reply row number kept is) short in let some = c.in-Some-2.is in cc) in
+    (let e = c.in_ok-reply.ensures.exact kept.reply (wide c.args.version row number kept is) (says_its_reply c.args.version row number kept is) short in let some = c.in-Some-2.is in cc) in
     both_told kept c.in-Some.entry c.in-Some-2.reply entry reply

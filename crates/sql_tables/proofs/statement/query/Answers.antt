@@ -1,16 +1,5 @@
-use Rattle.sqlite.specs.Held.{state}
-use Rattle.sql_tables.proofs.EndLemmas.{later_from}
-use Rattle.sql_tables.proofs.StatementLemmas.{looks, look_fell, look_why, look_opened}
+use Rattle.sql_tables.specs.Schema.{desk_schema}
 use Rattle.sql_tables.proofs.statement.query.Goals as goal
 
 pub returns-clause-look : goal.returns-clause-look
-returns-clause-look g c =
-    let old = state g.S.Store c.args.conn.now in
-    let new = state g.S.Store c.query_all.new.self in
-    record {
-      ok = λ clean is_open has. looks old new _ _ c.requires.query has c.query_all.result (c.query_all.ensures.ok clean);
-      err = λ clean is_open has. look_fell old new _ _ c.query_all.result (c.query_all.ensures.err clean);
-      why = λ clean is_open has. look_why old new _ _ c.query_all.result (c.query_all.ensures.err clean) is_open;
-      opened = λ clean. look_opened old new _ _ c.query_all.result (c.query_all.ensures.ok clean) (c.query_all.ensures.err clean);
-      later = later_from old new _ c.query_all.ensures.survives;
-    }
+returns-clause-look g c = c.query_of.ensures.look desk_schema c.requires.query

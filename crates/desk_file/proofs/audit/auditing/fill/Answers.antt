@@ -4,8 +4,7 @@ use Rattle.sqlite.specs.Held.{state}
 use Rattle.sqlite.specs.State.{HasCleanDisk}
 use Rattle.sql_tables.specs.Audits.{of_register}
 use Rattle.sql_tables.specs.Ends.{IsSame}
-use Rattle.sql_tables.specs.Schema.{desk_schema}
-use Rattle.sql_tables.specs.Forms.{AreAllFormed}
+use Rattle.sql_tables.specs.Versions.{schema_in, AreAllFormedIn}
 use Rattle.sql_tables.specs.Order.{AreInOrder}
 use Rattle.sql_tables.proofs.LookLemmas.{look_more}
 use Rattle.sql_rows.proofs.AmountWalkLemmas.{cause_failed}
@@ -13,7 +12,6 @@ use Rattle.desk_file.specs.declared.audit.register.Reading.{Reading}
 use Rattle.desk_file.specs.declared.audit.rest.Table.{Table}
 use Rattle.desk_engine.specs.KeptHistory.{HoldsKept}
 use Rattle.desk_file.specs.Reading.{HoldsFormed}
-use Rattle.desk_file.proofs.GoneLemmas.{again, IsAccepted}
 use Rattle.desk_file.proofs.HandedLemmas.{blame_fell, blame_handed, blame_none, blame_read, cause_handed, done_read, later_more, look_fell, look_handed, no_answer, not_done}
 use Rattle.desk_file.proofs.RestLemmas.{filled, none_or_some, rest_again, whole_or_stops}
 use Rattle.desk_file.proofs.audit.auditing.fill.Goals as goal
@@ -33,10 +31,11 @@ returns-in-None-clause-filled g c = λ clean is_open has honest sure order forme
     let honest1 = e2.read.later.honest honest in
     let sure1 = e1.done.sure honest1 sure in
     let read = e1.entries clean1 is_open has honest1 sure order formed c.in-Whole.is in
-    let it : IsAccepted s0.now v0.room v1.content = record { order = order; formed = formed; held = read.held } in
-    let q = again s0.now s1.now v0.room v1.room v1.content v1.content same.now e1.later.room refl it in
-    let rest = e2.says clean same.is_open has1 honest sure1 q.order q.formed q.held c.in-None.is in
-    filled s0.now s1.now v0.room v1.content v2.content same.now (e2.read.same honest sure1) read rest
+    let order1 = subst (λ (d : Database). AreInOrder (schema_in c.args.version) d.trees) (sym same.now) order in
+    let formed1 = subst (λ (d : Database). AreAllFormedIn c.args.version d.trees) (sym same.now) formed in
+    let held1 = subst (λ r. HoldsKept r v1.content.register v1.content) (sym e1.later.room) read.held in
+    let rest = e2.says clean same.is_open has1 honest sure1 order1 formed1 held1 c.in-None.is in
+    filled c.args.version s0.now s1.now v0.room v1.content v2.content same.now (e2.read.same honest sure1) read rest
 
 pub returns-in_err-read_register-clause-exact : goal.returns-in_err-read_register-clause-exact
 returns-in_err-read_register-clause-exact g c clean is_open has honest sure content filled = no_answer c.from_residual.result _ _ c.from_residual.ensures.1
@@ -62,7 +61,7 @@ returns-in-Some-clause-exact g c = λ clean is_open has honest sure content fill
     let read = e1.exact clean1 is_open has honest1 sure content filled.read in
     let holds = e1.holds honest1 sure read.0 in
     let held = subst (λ r. HoldsKept r v1.content.register v1.content) (sym e1.later.room) holds.held in
-    let rest = rest_again s0.now s1.now v0.room v1.room v1.content content same.now held read.1 filled in
+    let rest = rest_again c.args.version s0.now s1.now v0.room v1.room v1.content content same.now held read.1 filled in
     absurd (none_or_some _ _ (e2.exact clean same.is_open has1 honest (e1.done.sure honest1 sure) held holds.formed rest) c.in-Some.is)
 
 pub returns-in-None-clause-holds : goal.returns-in-None-clause-holds
@@ -131,8 +130,8 @@ returns-in_err-table-clause-cause g c clean is_open has honest sure order formed
     let later = c.first_other.ensures.look.later in
     let clean1 : HasCleanDisk s1 = (let less = later.clean in omega (arith, less, clean)) in
     let same : IsSame s0 s1 = c.in_ok-read_register.ensures.look.ok clean1 is_open has in
-    let order1 = subst (λ (d : Database). AreInOrder desk_schema d.trees) (sym same.now) order in
-    let formed1 = subst (λ (d : Database). AreAllFormed d.trees) (sym same.now) formed in
+    let order1 = subst (λ (d : Database). AreInOrder (schema_in c.args.version) d.trees) (sym same.now) order in
+    let formed1 = subst (λ (d : Database). AreAllFormedIn c.args.version d.trees) (sym same.now) formed in
     cause_failed (Option Table) c.in_err-table.field-0.0 c.from_residual-in_err-table.result c.from_residual-in_err-table.ensures.1 s0 s1 s2 c.in_ok-read_register.ensures.look.later later
     (c.in_err-table.ensures.cause clean same.is_open (ap (λ (d : Database). d.schema) same.now ∙ has) honest (c.in_ok-read_register.ensures.done.sure (c.first_other.ensures.read.later.honest honest) sure) order1 formed1)
 

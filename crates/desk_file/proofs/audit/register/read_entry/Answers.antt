@@ -1,6 +1,7 @@
 use Rattle.std.proofs.Common.{◌≡◌, ◌∷◌, ◌++◌, [], refl, subst, sym}
 use Rattle.std.proofs.lemmas.Bool.{both_ways}
 use Rattle.sqlite.specs.Held.{state}
+use Rattle.sql_tables.specs.Versions.{register_tree}
 use Rattle.sql_entries.specs.Found.{IsFormed, IsFound}
 use Rattle.sql_entries.specs.declared.compared.Found.{Found}
 use Rattle.desk_rules.specs.declared.answers.reply.Kept.{Kept}
@@ -161,7 +162,7 @@ returns-then-branch-clause-takes g c clean is_open has honest sure formed held t
     let found = c.in_ok-found_at.ensures.found clean is_open has formed in
     record {
       kept = c.in-Entry.kept;
-      is = subst (IsFound (s0.now.trees 6) c.args.number) c.in-Entry.is found;
+      is = subst (IsFound c.args.version (s0.now.trees (register_tree c.args.version)) c.args.number) c.in-Entry.is found;
       held = (c.in_ok-take-in-Entry.ensures.next v0.content.register honest sure held).held c.if-branch.true;
     }
 

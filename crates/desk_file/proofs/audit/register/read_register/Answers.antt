@@ -4,7 +4,8 @@ use Rattle.sqlite.specs.Effect.{Database}
 use Rattle.sqlite.specs.Held.{state}
 use Rattle.sqlite.specs.State.{HasCleanDisk}
 use Rattle.sql_tables.specs.Ends.{IsSame}
-use Rattle.sql_tables.specs.Schema.{desk_schema, register_table}
+use Rattle.sql_tables.specs.Schema.{register_table}
+use Rattle.sql_tables.specs.Versions.{register_tree, schema_in}
 use Rattle.sql_tables.specs.Forms.{HasForm}
 use Rattle.sql_tables.proofs.LookLemmas.{look_more, look_none}
 use Rattle.sql_rows.proofs.AmountWalkLemmas.{cause_failed}
@@ -18,6 +19,7 @@ use Rattle.desk_file.proofs.ReadingLemmas.{again, formed_again, is_read, more_he
 use Rattle.desk_rules.specs.Content.{Content}
 use Rattle.desk_file.proofs.FrontLemmas.{holds_first, holds_last, no_other, not_another, nothing_more, stepped, taken_on}
 use Rattle.desk_file.proofs.HandedLemmas.{blame_fell, blame_none, blame_told, cause_told_then, done_none, later_more, later_none, look_fell, look_told_then, no_answer, not_done}
+use Rattle.desk_file.proofs.RegisterTables.{register_formed}
 use Rattle.desk_file.proofs.TakingLemmas.{done_then}
 use Rattle.desk_file.proofs.audit.register.read_register.Goals as goal
 
@@ -45,20 +47,20 @@ loop-before-preserved g c =
       rows = λ clean is_open has honest sure formed.
           let clean1 : HasCleanDisk s1 = (let less = e.look.later.clean in omega arith) in
           let same : IsSame s0 s1 = i.look.ok clean1 is_open has in
-          let has1 : s1.now.schema ≡ desk_schema = ap (λ (d : Database). d.schema) same.now ∙ has in
+          let has1 : s1.now.schema ≡ schema_in c.args.version = ap (λ (d : Database). d.schema) same.now ∙ has in
           let honest1 = e.later.honest honest in
-          let formed1 = subst (λ (d : Database). AllByRecursion (HasForm register_table) (d.trees 6)) (sym same.now) formed in
+          let formed1 = subst (λ (d : Database). AllByRecursion (HasForm register_table) (d.trees (register_tree c.args.version))) (sym same.now) formed in
           let so_far = i.rows clean1 is_open has honest1 sure formed in
           let takes = e.takes clean same.is_open has1 honest (i.done.sure honest1 sure) formed1 (again v0.room v1.room v1.content (sym i.later.room) so_far.held) c.in-Taken.is in
-          more_held (s0.now.trees 6) c.loop-before.before v0.room v1.room v1.content v2.content so_far
-          (subst (λ (d : Database). TakesRow (d.trees 6) (c.loop-before.before + 1) v1.room v1.content v2.content) same.now takes) i.later.room;
+          more_held c.args.version (s0.now.trees (register_tree c.args.version)) c.loop-before.before v0.room v1.room v1.content v2.content so_far
+          (subst (λ (d : Database). TakesRow c.args.version (d.trees (register_tree c.args.version)) (c.loop-before.before + 1) v1.room v1.content v2.content) same.now takes) i.later.room;
       fronts = λ clean is_open has honest sure content read.
           let clean1 : HasCleanDisk s1 = (let less = e.look.later.clean in omega arith) in
           let same : IsSame s0 s1 = i.look.ok clean1 is_open has in
-          let has1 : s1.now.schema ≡ desk_schema = ap (λ (d : Database). d.schema) same.now ∙ has in
+          let has1 : s1.now.schema ≡ schema_in c.args.version = ap (λ (d : Database). d.schema) same.now ∙ has in
           let honest1 = e.later.honest honest in
-          taken_on s0.now content c.loop-before.before v1.content.register c.in_ok-read_entry.field-0 v2.content.register
-          (stepped s0.now s1.now v0.room v1.room content c.loop-before.before v1.content v2.content c.in_ok-read_entry.field-0 same.now i.later.room read (i.fronts clean1 is_open has honest1 sure content read)
+          taken_on c.args.version s0.now content c.loop-before.before v1.content.register c.in_ok-read_entry.field-0 v2.content.register
+          (stepped c.args.version s0.now s1.now v0.room v1.room content c.loop-before.before v1.content v2.content c.in_ok-read_entry.field-0 same.now i.later.room read (i.fronts clean1 is_open has honest1 sure content read)
           (e.exact clean same.is_open has1 honest (i.done.sure honest1 sure)) (e.nothing clean same.is_open has1)) c.in-Taken.is;
     }
 
@@ -75,17 +77,17 @@ returns-in-Nothing-clause-entries g c = λ clean is_open has honest sure order f
     let e = c.in_ok-read_entry.ensures in
     let n = c.in_ok-end-in-Nothing.ensures in
     let end = c.in_ok-end-in-Nothing.end in
-    let clean2 : HasCleanDisk s2 = (let less = n.look.later.clean in omega (arith, less, clean)) in
+    let clean2 : HasCleanDisk s2 = (let less = (n.look c.args.version).later.clean in omega (arith, less, clean)) in
     let clean1 : HasCleanDisk s1 = (let less = e.look.later.clean in omega (arith, less, clean2)) in
     let one : IsSame s0 s1 = i.look.ok clean1 is_open has in
-    let has1 : s1.now.schema ≡ desk_schema = ap (λ (d : Database). d.schema) one.now ∙ has in
+    let has1 : s1.now.schema ≡ schema_in c.args.version = ap (λ (d : Database). d.schema) one.now ∙ has in
     let two : IsSame s1 s2 = e.look.ok clean2 one.is_open has1 in
-    let has2 : s2.now.schema ≡ desk_schema = ap (λ (d : Database). d.schema) two.now ∙ has1 in
+    let has2 : s2.now.schema ≡ schema_in c.args.version = ap (λ (d : Database). d.schema) two.now ∙ has1 in
     let honest1 = e.later.honest honest in
     let same : v2.content ≡ v1.content = e.same honest (i.done.sure honest1 sure) c.in-Nothing.is in
-    let none = subst (λ (d : Database). end ≡ Whole → HasNoOther (d.trees 6) count) (two.now ∙ one.now) (n.none clean two.is_open has2).0 in
-    let rows = subst (HoldsRows (s0.now.trees 6) count v0.room) (sym same) (i.rows clean1 is_open has honest1 sure formed.1.1.1.0.each) in
-    is_read s0.now count v0.room v2.content end none order formed rows (omega arith) whole
+    let none = subst (λ (d : Database). end ≡ Whole → HasNoOther (d.trees (register_tree c.args.version)) count) (two.now ∙ one.now) (n.none c.args.version clean two.is_open has2).0 in
+    let rows = subst (HoldsRows c.args.version (s0.now.trees (register_tree c.args.version)) count v0.room) (sym same) (i.rows clean1 is_open has honest1 sure (register_formed c.args.version s0.now.trees formed)) in
+    is_read c.args.version s0.now count v0.room v2.content end none order formed rows (omega arith) whole
 
 pub returns-clause-entries : goal.returns-clause-entries
 returns-clause-entries g c = λ clean is_open has honest sure order formed whole.
@@ -97,12 +99,12 @@ returns-clause-entries g c = λ clean is_open has honest sure order formed whole
     let i = c.loop-before.invariant in
     let n = c.in_ok-end.ensures in
     let end = c.in_ok-end.end in
-    let clean1 : HasCleanDisk s1 = (let less = n.look.later.clean in omega (arith, less, clean)) in
+    let clean1 : HasCleanDisk s1 = (let less = (n.look c.args.version).later.clean in omega (arith, less, clean)) in
     let one : IsSame s0 s1 = i.look.ok clean1 is_open has in
-    let has1 : s1.now.schema ≡ desk_schema = ap (λ (d : Database). d.schema) one.now ∙ has in
+    let has1 : s1.now.schema ≡ schema_in c.args.version = ap (λ (d : Database). d.schema) one.now ∙ has in
     let all : MOST ≡ count = omega arith in
-    let none = subst (λ (d : Database). end ≡ Whole → HasNoOther (d.trees 6) count) one.now (subst (λ m. end ≡ Whole → HasNoOther (s1.now.trees 6) m) all (n.none clean one.is_open has1).0) in
-    is_read s0.now count v0.room v1.content end none order formed (i.rows clean1 is_open has honest sure formed.1.1.1.0.each) (omega arith) whole
+    let none = subst (λ (d : Database). end ≡ Whole → HasNoOther (d.trees (register_tree c.args.version)) count) one.now (subst (λ m. end ≡ Whole → HasNoOther (s1.now.trees (register_tree c.args.version)) m) all (n.none c.args.version clean one.is_open has1).0) in
+    is_read c.args.version s0.now count v0.room v1.content end none order formed (i.rows clean1 is_open has honest sure (register_formed c.args.version s0.now.trees formed)) (omega arith) whole
 
 pub returns-in_err-read_entry-clause-exact : goal.returns-in_err-read_entry-clause-exact
 returns-in_err-read_entry-clause-exact g c clean is_open has honest sure content read = no_answer c.from_residual.result _ _ c.from_residual.ensures.1
@@ -119,10 +121,10 @@ returns-in-Another-clause-exact g c = λ clean is_open has honest sure content r
     let e = c.in_ok-read_entry.ensures in
     let clean1 : HasCleanDisk s1 = (let less = e.look.later.clean in omega (arith, less, clean)) in
     let same : IsSame s0 s1 = i.look.ok clean1 is_open has in
-    let has1 : s1.now.schema ≡ desk_schema = ap (λ (d : Database). d.schema) same.now ∙ has in
+    let has1 : s1.now.schema ≡ schema_in c.args.version = ap (λ (d : Database). d.schema) same.now ∙ has in
     let honest1 = e.later.honest honest in
-    absurd (not_another s0.now content count v1.content.register c.in_ok-read_entry.field-0 v2.content.register
-    (stepped s0.now s1.now v0.room v1.room content count v1.content v2.content c.in_ok-read_entry.field-0 same.now i.later.room read (i.fronts clean1 is_open has honest1 sure content read)
+    absurd (not_another c.args.version s0.now content count v1.content.register c.in_ok-read_entry.field-0 v2.content.register
+    (stepped c.args.version s0.now s1.now v0.room v1.room content count v1.content v2.content c.in_ok-read_entry.field-0 same.now i.later.room read (i.fronts clean1 is_open has honest1 sure content read)
     (e.exact clean same.is_open has1 honest (i.done.sure honest1 sure)) (e.nothing clean same.is_open has1)) c.in-Another.is)
 
 pub returns-in_err-end-in-Nothing-clause-exact : goal.returns-in_err-end-in-Nothing-clause-exact
@@ -141,18 +143,18 @@ returns-in-Nothing-clause-exact g c = λ clean is_open has honest sure content r
     let e = c.in_ok-read_entry.ensures in
     let n = c.in_ok-end-in-Nothing.ensures in
     let end = c.in_ok-end-in-Nothing.end in
-    let clean2 : HasCleanDisk s2 = (let less = n.look.later.clean in omega (arith, less, clean)) in
+    let clean2 : HasCleanDisk s2 = (let less = (n.look c.args.version).later.clean in omega (arith, less, clean)) in
     let clean1 : HasCleanDisk s1 = (let less = e.look.later.clean in omega (arith, less, clean2)) in
     let one : IsSame s0 s1 = i.look.ok clean1 is_open has in
-    let has1 : s1.now.schema ≡ desk_schema = ap (λ (d : Database). d.schema) one.now ∙ has in
+    let has1 : s1.now.schema ≡ schema_in c.args.version = ap (λ (d : Database). d.schema) one.now ∙ has in
     let two : IsSame s1 s2 = e.look.ok clean2 one.is_open has1 in
-    let has2 : s2.now.schema ≡ desk_schema = ap (λ (d : Database). d.schema) two.now ∙ has1 in
+    let has2 : s2.now.schema ≡ schema_in c.args.version = ap (λ (d : Database). d.schema) two.now ∙ has1 in
     let honest1 = e.later.honest honest in
     let sure1 = i.done.sure honest1 sure in
     let same : v2.content ≡ v1.content = e.same honest sure1 c.in-Nothing.is in
-    let told = subst (λ (d : Database). (end ≡ Whole) ↔ HasNoOther (d.trees 6) count) (two.now ∙ one.now) (n.none clean two.is_open has2) in
-    let more = nothing_more s0.now content count v1.content.register c.in_ok-read_entry.field-0 v2.content.register
-    (stepped s0.now s1.now v0.room v1.room content count v1.content v2.content c.in_ok-read_entry.field-0 one.now i.later.room read (i.fronts clean1 is_open has honest1 sure content read)
+    let told = subst (λ (d : Database). (end ≡ Whole) ↔ HasNoOther (d.trees (register_tree c.args.version)) count) (two.now ∙ one.now) (n.none c.args.version clean two.is_open has2) in
+    let more = nothing_more c.args.version s0.now content count v1.content.register c.in_ok-read_entry.field-0 v2.content.register
+    (stepped c.args.version s0.now s1.now v0.room v1.room content count v1.content v2.content c.in_ok-read_entry.field-0 one.now i.later.room read (i.fronts clean1 is_open has honest1 sure content read)
     (e.exact clean2 one.is_open has1 honest sure1) (e.nothing clean2 one.is_open has1)) c.in-Nothing.is in
     (told.1 more.1, ap (λ (x : Content). x.register) same ∙ more.0)
 
@@ -168,16 +170,16 @@ returns-clause-exact g c = λ clean is_open has honest sure content read.
     let i = c.loop-before.invariant in
     let n = c.in_ok-end.ensures in
     let end = c.in_ok-end.end in
-    let clean1 : HasCleanDisk s1 = (let less = n.look.later.clean in omega (arith, less, clean)) in
+    let clean1 : HasCleanDisk s1 = (let less = (n.look c.args.version).later.clean in omega (arith, less, clean)) in
     let one : IsSame s0 s1 = i.look.ok clean1 is_open has in
-    let has1 : s1.now.schema ≡ desk_schema = ap (λ (d : Database). d.schema) one.now ∙ has in
+    let has1 : s1.now.schema ≡ schema_in c.args.version = ap (λ (d : Database). d.schema) one.now ∙ has in
     let all : MOST ≡ count = omega arith in
-    let told = subst (λ (d : Database). (end ≡ Whole) ↔ HasNoOther (d.trees 6) MOST) one.now (n.none clean one.is_open has1) in
+    let told = subst (λ (d : Database). (end ≡ Whole) ↔ HasNoOther (d.trees (register_tree c.args.version)) MOST) one.now (n.none c.args.version clean one.is_open has1) in
     let holds = i.fronts clean1 is_open has honest sure content read in
     let few : length content.register ≤ count = (let below = read.entries.few in omega (arith, below, all)) in
     let whole = holds_last content.register count v1.content.register holds few in
     let size : length content.register ≡ MOST = ap length (sym whole) ∙ holds.size ∙ sym all in
-    (told.1 (subst (HasNoOther (s0.now.trees 6)) size (no_other s0.now content.register read.entries)), whole)
+    (told.1 (subst (HasNoOther (s0.now.trees (register_tree c.args.version))) size (no_other c.args.version s0.now content.register read.entries)), whole)
 
 pub returns-in-Nothing-clause-holds : goal.returns-in-Nothing-clause-holds
 returns-in-Nothing-clause-holds g c = λ honest sure whole.
@@ -211,7 +213,7 @@ loop-before-init g c =
       done = done_none v0 c.requires.stage;
       later = later_none v0;
       holds = λ honest sure. none_formed v0.room v0.content (c.requires.empty honest sure);
-      rows = λ clean is_open has honest sure formed. none_held (s0.now.trees 6) v0.room v0.content (c.requires.empty honest sure);
+      rows = λ clean is_open has honest sure formed. none_held c.args.version (s0.now.trees (register_tree c.args.version)) v0.room v0.content (c.requires.empty honest sure);
       fronts = λ clean is_open has honest sure content read. holds_first v0.room content.register v0.content (c.requires.empty honest sure);
     }
 
@@ -285,14 +287,14 @@ returns-in_err-end-in-Nothing-clause-look g c =
     let s0 = state g.S.Store c.args.conn.now in
     let s1 = state g.S.Store c.loop-before.conn in
     let s2 = state g.S.Store c.read_entry.new.conn in
-    look_told_then c.in_err-end-in-Nothing.field-0.0 c.from_residual-in_err-end-in-Nothing.result c.from_residual-in_err-end-in-Nothing.ensures.1 Reading s0 s2 _ (look_more tt s0 s1 s2 c.loop-before.invariant.look c.in_ok-read_entry.ensures.look) c.in_err-end-in-Nothing.ensures.look
+    look_told_then c.in_err-end-in-Nothing.field-0.0 c.from_residual-in_err-end-in-Nothing.result c.from_residual-in_err-end-in-Nothing.ensures.1 Reading s0 s2 _ (look_more tt s0 s1 s2 c.loop-before.invariant.look c.in_ok-read_entry.ensures.look) (c.in_err-end-in-Nothing.ensures.look c.args.version)
 
 pub returns-in_err-end-in-Nothing-clause-cause : goal.returns-in_err-end-in-Nothing-clause-cause
 returns-in_err-end-in-Nothing-clause-cause g c clean is_open has =
     let s0 = state g.S.Store c.args.conn.now in
     let s1 = state g.S.Store c.loop-before.conn in
     let s2 = state g.S.Store c.read_entry.new.conn in
-    cause_told_then c.in_err-end-in-Nothing.field-0.0 c.from_residual-in_err-end-in-Nothing.result c.from_residual-in_err-end-in-Nothing.ensures.1 Reading s0 s2 _ (look_more tt s0 s1 s2 c.loop-before.invariant.look c.in_ok-read_entry.ensures.look) c.in_err-end-in-Nothing.ensures.look c.in_err-end-in-Nothing.ensures.cause clean is_open has
+    cause_told_then c.in_err-end-in-Nothing.field-0.0 c.from_residual-in_err-end-in-Nothing.result c.from_residual-in_err-end-in-Nothing.ensures.1 Reading s0 s2 _ (look_more tt s0 s1 s2 c.loop-before.invariant.look c.in_ok-read_entry.ensures.look) (c.in_err-end-in-Nothing.ensures.look c.args.version) (c.in_err-end-in-Nothing.ensures.cause c.args.version) clean is_open has
 
 pub returns-in_err-end-in-Nothing-clause-done : goal.returns-in_err-end-in-Nothing-clause-done
 returns-in_err-end-in-Nothing-clause-done g c = not_done c.from_residual-in_err-end-in-Nothing.result _ _ c.from_residual-in_err-end-in-Nothing.ensures.1
@@ -314,7 +316,7 @@ returns-in-Nothing-clause-look g c =
     let s0 = state g.S.Store c.args.conn.now in
     let s1 = state g.S.Store c.loop-before.conn in
     let s2 = state g.S.Store c.read_entry.new.conn in
-    look_more c.in_ok-end-in-Nothing.end s0 s2 _ (look_more tt s0 s1 s2 c.loop-before.invariant.look c.in_ok-read_entry.ensures.look) c.in_ok-end-in-Nothing.ensures.look
+    look_more c.in_ok-end-in-Nothing.end s0 s2 _ (look_more tt s0 s1 s2 c.loop-before.invariant.look c.in_ok-read_entry.ensures.look) (c.in_ok-end-in-Nothing.ensures.look c.args.version)
 
 pub returns-in-Nothing-clause-done : goal.returns-in-Nothing-clause-done
 returns-in-Nothing-clause-done g c =
@@ -347,13 +349,13 @@ pub returns-in_err-end-clause-look : goal.returns-in_err-end-clause-look
 returns-in_err-end-clause-look g c =
     let s0 = state g.S.Store c.args.conn.now in
     let s1 = state g.S.Store c.loop-before.conn in
-    look_told_then c.in_err-end.field-0.0 c.from_residual-in_err-end.result c.from_residual-in_err-end.ensures.1 Reading s0 s1 _ c.loop-before.invariant.look c.in_err-end.ensures.look
+    look_told_then c.in_err-end.field-0.0 c.from_residual-in_err-end.result c.from_residual-in_err-end.ensures.1 Reading s0 s1 _ c.loop-before.invariant.look (c.in_err-end.ensures.look c.args.version)
 
 pub returns-in_err-end-clause-cause : goal.returns-in_err-end-clause-cause
 returns-in_err-end-clause-cause g c clean is_open has =
     let s0 = state g.S.Store c.args.conn.now in
     let s1 = state g.S.Store c.loop-before.conn in
-    cause_told_then c.in_err-end.field-0.0 c.from_residual-in_err-end.result c.from_residual-in_err-end.ensures.1 Reading s0 s1 _ c.loop-before.invariant.look c.in_err-end.ensures.look c.in_err-end.ensures.cause clean is_open has
+    cause_told_then c.in_err-end.field-0.0 c.from_residual-in_err-end.result c.from_residual-in_err-end.ensures.1 Reading s0 s1 _ c.loop-before.invariant.look (c.in_err-end.ensures.look c.args.version) (c.in_err-end.ensures.cause c.args.version) clean is_open has
 
 pub returns-in_err-end-clause-done : goal.returns-in_err-end-clause-done
 returns-in_err-end-clause-done g c = not_done c.from_residual-in_err-end.result _ _ c.from_residual-in_err-end.ensures.1
@@ -365,7 +367,7 @@ pub returns-clause-look : goal.returns-clause-look
 returns-clause-look g c =
     let s0 = state g.S.Store c.args.conn.now in
     let s1 = state g.S.Store c.loop-before.conn in
-    look_more c.in_ok-end.end s0 s1 _ c.loop-before.invariant.look c.in_ok-end.ensures.look
+    look_more c.in_ok-end.end s0 s1 _ c.loop-before.invariant.look (c.in_ok-end.ensures.look c.args.version)
 
 pub returns-clause-blame : goal.returns-clause-blame
 returns-clause-blame g c kept = blame_none tt _ _

@@ -8,7 +8,8 @@ use Rattle.desk_register.specs.View.{View, HasRead, IsRead}
 use Rattle.desk_register.specs.declared.register.Stage.TheVariants.{Idle, Failed}
 use Rattle.desk_register.proofs.ViewLemmas.{idle_goes}
 use Rattle.desk_register.proofs.ReadLemmas.{read_err, read_more, read_none, read_ok, read_then}
-use Rattle.sql_rows.specs.StandingsTold.{AreTold, IsTold}
+use Rattle.sql_rows.specs.StandingsTold.{as_said, AreTold, IsTold}
+use Rattle.sql_tables.specs.declared.versions.Version.{Version}
 use Rattle.sql_rows.proofs.StandingRows.{told_all, told_none, told_row, next_row, none_left}
 use Rattle.sql_rows.proofs.standings.compared.standings_told.Goals.{in-NoInstruction, in_default+in-Some+else-not-is_row}
 use Rattle.sql_rows.proofs.standings.compared.standings_told.Goals as goal
@@ -16,6 +17,10 @@ use Rattle.sql_rows.proofs.standings.compared.standings_told.Goals as goal
 -- what the register said of a number is what it said at first
 asked : (v0 v1 : View) (n : ℕ) (s : Standing) → HasRead v0 v1 → v0.stage ≡ Idle → v1.is_honest → v0.is_sure → (v1.is_sure → v1.stage ≢ Failed → s ≡ v1.content.standing n) → s ≡ v0.content.standing n
 asked v0 v1 n s read idle honest sure value = value (read.ok.sure honest sure) (idle_goes v1.stage (read.ok.stage ∙ idle)) ∙ ap (λ (x : Content). x.standing n) (read.same honest sure)
+
+-- what a version of the file tells of each number
+abbrev said_of : Version → Content → ℕ → Standing
+said_of version content n = as_said version (content.standing n)
 
 -- where the register gave no answer
 no_answer : (fault : Fault) (r : Result Bool Fault) → IsErrAnd r (λ e. e ≡ fault) → (P : Bool → Type 0) → IfOk r P
@@ -33,7 +38,7 @@ loop-before-preserved g c =
     let v0 = g.R.Register.view c.args.register.now in
     let v1 = g.R.Register.view c.loop-before.register in
     let v2 = g.R.Register.view c.standing.new.self in
-    let standing = v0.content.standing in
+    let standing = said_of c.args.version v0.content in
     record {
       read = read_more c.in_ok-standing.standing v0 v1 v2 i.read r.read;
       within = elim c.match-standing.branch [
@@ -42,14 +47,15 @@ loop-before-preserved g c =
       ];
       told = λ honest sure.
           let honest1 = r.read.later.honest honest in
-          let is : c.in_ok-standing.standing ≡ standing (c.loop-before.before + 1) = asked v0 v1 (c.loop-before.before + 1) c.in_ok-standing.standing i.read c.requires.stage honest1 sure (r.value honest) in
+          let was = asked v0 v1 (c.loop-before.before + 1) c.in_ok-standing.standing i.read c.requires.stage honest1 sure (r.value honest) in
+          let is : c.said_by-standing.result ≡ standing (c.loop-before.before + 1) = c.said_by-standing.ensures ∙ ap (as_said c.args.version) was in
           let so = i.told honest1 sure in
           elim c.match-standing.branch [
-            | in-NoInstruction w ↦ (subst (λ n. AreTold standing (c.loop-before.before + 1) (take n c.args.rows.now)) (sym w.at-is) (told_none standing c.loop-before.before c.loop-before.at c.args.rows.now so c.in_ok-standing.standing is (c.if-not-is_told.ensures.0 refl) w.in-NoInstruction.is))
+            | in-NoInstruction w ↦ (subst (λ n. AreTold standing (c.loop-before.before + 1) (take n c.args.rows.now)) (sym w.at-is) (told_none standing c.loop-before.before c.loop-before.at c.args.rows.now so c.said_by-standing.result is (c.if-not-is_told.ensures.0 refl) w.in-NoInstruction.is))
             | in_default+in-Some+else-not-is_row w ↦ (let low = ltb-true c.loop-before.at (length c.args.rows.now) (sym w.in-Some.ensures.lookup.0) in
                 let row = w.if-not-is_row.ensures.0 refl in
                 subst (λ n. AreTold standing (c.loop-before.before + 1) (take n c.args.rows.now)) (sym w.at-is)
-                (told_row standing c.loop-before.before c.loop-before.at c.args.rows.now so c.in_ok-standing.standing is (c.if-not-is_told.ensures.0 refl) w.in-Some.row.now w.in_default.not-NoInstruction low (sym w.in-Some.ensures.lookup.1 ∙ row)))
+                (told_row standing c.loop-before.before c.loop-before.at c.args.rows.now so c.said_by-standing.result is (c.if-not-is_told.ensures.0 refl) w.in-Some.row.now w.in_default.not-NoInstruction low (sym w.in-Some.ensures.lookup.1 ∙ row)))
           ];
     }
 
@@ -59,10 +65,10 @@ returns-then-not-is_row-clause-told g c = λ honest sure.
     let r = c.in_ok-standing.ensures in
     let v0 = g.R.Register.view c.args.register.now in
     let honest1 = r.read.later.honest honest in
-    let standing = c.in_ok-standing.standing in
-    let is = asked v0 (g.R.Register.view c.loop-before.register) (c.loop-before.before + 1) standing i.read c.requires.stage honest1 sure (r.value honest) in (
+    let standing = c.said_by-standing.result in
+    let is = c.said_by-standing.ensures ∙ ap (as_said c.args.version) (asked v0 (g.R.Register.view c.loop-before.register) (c.loop-before.before + 1) c.in_ok-standing.standing i.read c.requires.stage honest1 sure (r.value honest)) in (
       λ none. absurd (cc),
-      λ all. (let next = next_row v0.content.standing c.args.count c.args.rows.now all c.loop-before.before c.loop-before.at (omega arith) (i.told honest1 sure) i.within standing is c.in_default.not-NoInstruction in
+      λ all. (let next = next_row (said_of c.args.version v0.content) c.args.count c.args.rows.now all c.loop-before.before c.loop-before.at (omega arith) (i.told honest1 sure) i.within standing is c.in_default.not-NoInstruction in
           c.if-not-is_row.ensures.1 (c.in-Some.ensures.lookup.1 ∙ next.1 c.in-Some.row.now)),
     )
 
@@ -72,17 +78,17 @@ returns-in-None-clause-told g c = λ honest sure.
     let r = c.in_ok-standing.ensures in
     let v0 = g.R.Register.view c.args.register.now in
     let honest1 = r.read.later.honest honest in
-    let standing = c.in_ok-standing.standing in
-    let is = asked v0 (g.R.Register.view c.loop-before.register) (c.loop-before.before + 1) standing i.read c.requires.stage honest1 sure (r.value honest) in (
+    let standing = c.said_by-standing.result in
+    let is = c.said_by-standing.ensures ∙ ap (as_said c.args.version) (asked v0 (g.R.Register.view c.loop-before.register) (c.loop-before.before + 1) c.in_ok-standing.standing i.read c.requires.stage honest1 sure (r.value honest)) in (
       λ none. absurd (cc),
-      λ all. (let next = next_row v0.content.standing c.args.count c.args.rows.now all c.loop-before.before c.loop-before.at (omega arith) (i.told honest1 sure) i.within standing is c.in_default.not-NoInstruction in
+      λ all. (let next = next_row (said_of c.args.version v0.content) c.args.count c.args.rows.now all c.loop-before.before c.loop-before.at (omega arith) (i.told honest1 sure) i.within standing is c.in_default.not-NoInstruction in
           absurd (omega (arith, next.0, c.in-None.ensures.lookup.3))),
     )
 
 pub returns-clause-told : goal.returns-clause-told
 returns-clause-told g c = λ honest sure.
     let i = c.loop-before.invariant in
-    let standing = (g.R.Register.view c.args.register.now).content.standing in
+    let standing = said_of c.args.version (g.R.Register.view c.args.register.now).content in
     let at = c.loop-before.at in
     let rows = c.args.rows.now in
     let last : c.loop-before.before ≡ c.args.count = omega arith in (
@@ -112,8 +118,8 @@ returns-then-not-is_told-clause-told g c = λ honest sure.
     let r = c.in_ok-standing.ensures in
     let v0 = g.R.Register.view c.args.register.now in
     let honest1 = r.read.later.honest honest in
-    let standing = c.in_ok-standing.standing in
-    let is = asked v0 (g.R.Register.view c.loop-before.register) (c.loop-before.before + 1) standing i.read c.requires.stage honest1 sure (r.value honest) in
+    let standing = c.said_by-standing.result in
+    let is = c.said_by-standing.ensures ∙ ap (as_said c.args.version) (asked v0 (g.R.Register.view c.loop-before.register) (c.loop-before.before + 1) c.in_ok-standing.standing i.read c.requires.stage honest1 sure (r.value honest)) in
     let low : c.loop-before.before < c.args.count = omega arith in (
       λ none. absurd (cc),
       λ all. c.if-not-is_told.ensures.1 (subst (IsTold (c.loop-before.before + 1)) (sym is) (all.each c.loop-before.before low)),
