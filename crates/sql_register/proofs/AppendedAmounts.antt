@@ -20,11 +20,18 @@ use Rattle.desk_rules.specs.declared.history.entry.Entry.TheVariants.{Participan
 use Rattle.desk_rules.specs.Balances.{issued_by, movement_of, quantity_if, redeemed_by, same_ccy}
 use Rattle.desk_rules.specs.Content.{CashBalances, Positions}
 use Rattle.desk_rules.proofs.Conservation.{if_false, if_true}
-use Rattle.sql_register.specs.Appending.{IsAlone}
 use Rattle.sql_register.specs.Content.{content_in}
 use Rattle.sql_register.specs.Holds.{outstanding_in, paid_in_table}
 use Rattle.sql_register.proofs.AppendedTotals.{TotalsMore, paid_after}
 use Rattle.sql_register.proofs.ContentLemmas.{same_cash, same_outstanding, same_paid, same_positions}
+
+-- entries of the operator's that move nothing
+abbrev pub IsAlone : Entry → Type 0
+IsAlone (Participant reference bic) = Unit {0}
+IsAlone (Account reference bic account) = Unit {0}
+IsAlone (Security reference isin kind) = Unit {0}
+IsAlone (Run reference day rule) = Unit {0}
+IsAlone entry = ⊥
 
 -- An entry that moves no securities, no cash.
 pub record MovesNoSecurities (e : Entry) : Type 0 where

@@ -1,5 +1,5 @@
 -- An instruction more: its row, and that it stands unmatched.
-use Rattle.std.proofs.Common.{◌≡◌, inl, inr, refl, sym, ap, ◌∙◌, ℕ, ◌+◌, length, arith}
+use Rattle.std.proofs.Common.{◌≡◌, inl, inr, refl, sym, ap, subst, ◌∙◌, ℕ, ◌+◌, length, arith}
 use Rattle.sqlite.specs.Effect.{Database}
 use Rattle.sql_rows.proofs.AmountLemmas.{SameAmounts, same_amounts}
 use Rattle.sql_entries.specs.Entries.{with_entry}
@@ -69,3 +69,22 @@ module _ (old d1 : Database) (i : Instructed) (reply : Reply) (room : ℕ) (desk
           formed = added.formed;
           short = added.short;
         })
+
+-- the same of an entry that is such an instruction
+module _ (old d1 : Database) (e : Entry) (i : Instructed) (reply : Reply) (room : ℕ) (desk : IsDesk old) (is : e ≡ Instruct i.sender i.instruction) (can : CanAppend room e reply (content_in old)) (added : RowAdded old d1 (content_in old).register e reply) where
+  able : CanAppend room (Instruct i.sender i.instruction) reply (content_in old)
+  able = subst (λ x. CanAppend room x reply (content_in old)) is can
+
+  row : RowAdded old d1 (content_in old).register (Instruct i.sender i.instruction) reply
+  row = subst (λ x. RowAdded old d1 (content_in old).register x reply) is added
+
+  pub instructed_standings : AreStandings d1
+  instructed_standings = row_standings old d1 i reply room desk able row
+
+  module _ (n : ℕ) (at : n ≡ length (content_in old).register + 1) where
+    pub instructed_none : (standing_in d1 n).state ≡ NoInstruction
+    instructed_none = subst (λ k. (standing_in d1 k).state ≡ NoInstruction) (sym at) (none_yet old d1 i reply room desk able row)
+
+    pub instructed_becomes : (new : Database) → StandingsChanged d1 new (standing_at (standing_in d1) n fresh_standing) → new.schema ≡ desk_schema → Becomes new (appended e reply (content_in old))
+    instructed_becomes new stood schema = subst (λ x. Becomes new (appended x reply (content_in old))) (sym is)
+        (instruct_becomes old d1 i reply room desk able row new (subst (λ k. StandingsChanged d1 new (standing_at (standing_in d1) k fresh_standing)) at stood) schema)

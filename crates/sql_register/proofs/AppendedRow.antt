@@ -15,10 +15,10 @@ use Rattle.desk_rules.specs.Content.{history_of}
 use Rattle.desk_rules.specs.History.{instructed}
 use Rattle.sql_rows.proofs.StandingLemmas.{same_standings, same_standing_in}
 use Rattle.sql_tables.specs.Schema.{desk_schema}
-use Rattle.sql_register.specs.Appending.{IsAlone, RowAdded}
+use Rattle.sql_register.specs.Appending.{RowAdded}
 use Rattle.sql_register.specs.Content.{content_in}
 use Rattle.sql_register.specs.Holds.{Becomes, IsDesk}
-use Rattle.sql_register.proofs.AppendedAmounts.{CashMoves, SecuritiesMove, alone_no_cash, alone_no_securities, cash_same, securities_same, totals_of}
+use Rattle.sql_register.proofs.AppendedAmounts.{CashMoves, IsAlone, SecuritiesMove, alone_no_cash, alone_no_securities, cash_same, securities_same, totals_of}
 use Rattle.sql_register.proofs.AppendedContent.{takes_entry}
 use Rattle.sql_register.proofs.AppendedHistory.{stands_same}
 use Rattle.sql_register.proofs.ContentLemmas.{same_totals}

@@ -1,5 +1,5 @@
 -- What all accounts hold of a security, and all participants have of a currency, is what the rows of their tables add up to.
-use Rattle.std.proofs.Common.{◌≡◌, refl, ◌<◌, ◌^◌, Bool, true, false, List, ℕ, None, Some, Option, codes, arith}
+use Rattle.std.proofs.Common.{◌≡◌, refl, ◌<◌, ◌^◌, false, List, ℕ, None, Some, Option, codes, arith}
 use Rattle.std.specs.Prelude.{is_some}
 use Rattle.sqlite.specs.Effect.{Database}
 use Rattle.desk_codes.specs.Currency.{letters_of}

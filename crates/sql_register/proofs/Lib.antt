@@ -21,6 +21,7 @@ pub mod AppendedContent
 pub mod AppendedAmounts
 pub mod AppendedRow
 pub mod AppendedMoves
+pub mod PostedLemmas
 pub mod AppendedInstruction
 pub mod AppendedCancellation
 pub mod LegLemmas

@@ -1,5 +1,5 @@
 -- The calls that pair two instructions, cancel a pair, and let one wait.
-use Rattle.std.proofs.Common.{◌≡◌, ℕ, Result, Ok, Err, OnOk}
+use Rattle.std.proofs.Common.{ℕ, Result, Ok, Err, OnOk}
 use Rattle.sqlite.specs.State.{State}
 use Rattle.sqlite.specs.Effect.{Database}
 use Rattle.sqlite.specs.declared.error.Error.{Error}

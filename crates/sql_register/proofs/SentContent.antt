@@ -1,13 +1,17 @@
 -- One message more: the other tables say what they said.
-use Rattle.std.proofs.Common.{◌≡◌, inl, inr, refl, sym, ap, subst, ◌∙◌, ℕ, ◌+◌, ◌<◌, ◌^◌, List, [], ◌∷◌, map, arith}
+use Rattle.std.proofs.Common.{◌≡◌, inl, inr, refl, sym, ap, subst, ◌∙◌, ℕ, ◌+◌, ◌<◌, ◌^◌, List, [], ◌∷◌, length, map, Ok, Err, Result, OnOk, arith, lit<}
 use Rattle.std.specs.Int.{w64, cast_signed, cast_unsigned}
 use Rattle.std.specs.List.{AllByRecursion}
 use Rattle.std.proofs.lemmas.Int.{of_z-to_z}
+use Rattle.sqlite.specs.declared.error.Error.{Error}
 use Rattle.sqlite.specs.Effect.{Database}
+use Rattle.sqlite.specs.State.{State}
 use Rattle.sql_rows.proofs.AmountLemmas.{SameAmounts, same_amounts}
 use Rattle.desk_register.specs.Changes.{with_sent}
+use Rattle.sql_tables.specs.Ends.{Stays}
 use Rattle.sql_tables.specs.Schema.{desk_schema}
 use Rattle.desk_rules.specs.declared.answers.reply.Sent.{Sent}
+use Rattle.desk_rules.specs.declared.limits.TheConstants.{MOST_SENT}
 use Rattle.sql_entries.proofs.SameLemmas.{same_entries}
 use Rattle.sql_rows.specs.Messages.{AreSent, Adds, IsSendable, rows_from, stored}
 use Rattle.sql_rows.proofs.SentRowLemmas.{all_more}
@@ -66,3 +70,12 @@ module _ (old new : Database) (message : Sent) (desk : IsDesk old) (adds : Adds 
 
   pub message_more : new.schema ≡ desk_schema → Becomes new (with_sent message (content_in old))
   message_more schema = record { desk = subst (Keeps new) (sym content) (keeps schema); content_is = content }
+
+-- a message that was added, where it could be
+pub message_sent : (old new : State) (message : Sent) (r : Result (Unit {0}) Error) → IsDesk old.now → IsSendable message → OnOk r (Stays old new) → OnOk r (Adds old.now new.now (content_in old.now).sent message) → OnOk r (Becomes new.now (with_sent message (content_in old.now)))
+message_sent old new message (Ok tt) desk sendable stays adds = message_more old.now new.now message desk adds sendable stays.schema
+message_sent old new message (Err e) desk sendable stays adds = tt
+
+-- there are fewer than the table can number
+pub sent_fits : (sent : List Sent) → length sent < MOST_SENT → length sent + 1 < 2 ^ 63
+sent_fits sent few = let most : MOST_SENT + 1 < 2 ^ 63 = lit< tt in omega (arith, few, most)

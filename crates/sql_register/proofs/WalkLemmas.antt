@@ -1,5 +1,5 @@
 -- What is found by walking the tables is what is looked for.
-use Rattle.std.proofs.Common.{◌≡◌, ◌≢◌, inl, inr, refl, ap, sym, subst, ◌∙◌, ℕ, ◌<◌, ◌≤◌, true, false, if◌then◌else◌, Option, Some, None, IfSome, Result, Ok, Err, IfOk, IsErrAnd, arith}
+use Rattle.std.proofs.Common.{◌≡◌, ◌≢◌, inl, inr, refl, ap, sym, subst, ◌∙◌, ℕ, ◌<◌, ◌≤◌, true, false, if◌then◌else◌, Option, Some, None, IfSome, Result, Ok, Err, IfOk, IsErrAnd, IsTrue, arith}
 use Rattle.std.proofs.lemmas.Bool.{cases_Bool, cases_lt, false_from_ne_true}
 use Rattle.sqlite.specs.Effect.{Database}
 use Rattle.sqlite.specs.State.{State as StoreState, HasCleanDisk}
@@ -19,7 +19,7 @@ use Rattle.desk_register.specs.Looked.{IsDue, IsDuePairAfter, IsFirstOpposite, I
 use Rattle.sql_entries.specs.Opposites.{IsNextOpposite, IsOppositeEntry}
 use Rattle.sql_rows.specs.Standings.{IsNextMatched}
 use Rattle.sql_tables.specs.Ends.{ForCause, IfSound, IsLater, IsLook}
-use Rattle.sql_tables.proofs.LookLemmas.{look_err, look_then}
+use Rattle.sql_tables.proofs.LookLemmas.{look_err, look_ok, look_then}
 use Rattle.sql_register.specs.Content.{content_in}
 use Rattle.sql_register.specs.Holds.{IsDesk}
 use Rattle.sql_register.specs.Walking.{is_unmatched, sooner, IsDueAt}
@@ -48,6 +48,21 @@ module _ {X : Type 0} (x : X) (a b c : StoreState) (first : IsLook (Ok x) a b) w
   pub look_handed : {Y Z : Type 0} (r : Result Z Error) (e : Error) → IsErrAnd r (λ handed. handed ≡ e) → IsLook {X = Y} (Err e) b c → IsLook r a c
   look_handed (Ok z) e handed look = absurd handed
   look_handed {Z = Z} (Err y) e handed look = subst (λ z. IsLook {X = Z} (Err z) a c) (sym handed) (look_err e a c (look_then x (Err e) a b c first look))
+
+-- a look that went well, and what it showed is refused
+pub look_as : {X Y : Type 0} (x : X) (e : Error) (a b : StoreState) → IsLook (Ok x) a b → IsLook {X = Y} (Err e) a b
+look_as x e a b look = record {
+  ok = λ clean is_open has. tt;
+  err = λ clean is_open has. inl (look.ok clean is_open has);
+  why = λ clean is_open has inside out. (let same = look.ok clean is_open has in absurd (let bad = subst IsTrue (sym same.mode ∙ out) inside in cc));
+  opened = look.opened;
+  later = look.later;
+}
+
+-- and whatever is made of what it showed
+pub look_any : {X Y : Type 0} (x : X) (r : Result Y Error) (a b : StoreState) → IsLook (Ok x) a b → IsLook r a b
+look_any x (Ok y) a b look = look_ok x y a b look
+look_any x (Err e) a b look = look_as x e a b look
 
 -- ---- opposite instructions
 

@@ -8,7 +8,6 @@ use Rattle.sql_entries.specs.Entries.{AreEntries, with_entry}
 use Rattle.sql_entries.specs.Shown.{HasShortNumbers}
 use Rattle.sql_tables.specs.Ends.{SparesOthers}
 use Rattle.desk_rules.specs.declared.history.entry.Entry.{Entry}
-use Rattle.desk_rules.specs.declared.history.entry.Entry.TheVariants.{Participant, Account, Security, Run}
 
 -- the row of an entry is added with its reply, where there is room for one, and is one that the desk can write
 pub record RowAdded (old new : Database) (register : List Kept) (entry : Entry) (reply : Reply) : Type 0 where
@@ -17,11 +16,3 @@ pub record RowAdded (old new : Database) (register : List Kept) (entry : Entry) 
   pub within : length register + 1 < 1_000_000_000
   pub formed : IsWellFormed entry
   pub short : HasShortNumbers reply
-
--- entries that move nothing and ask for nothing: only their row is added
-abbrev pub IsAlone : Entry → Type 0
-IsAlone (Participant reference bic) = Unit {0}
-IsAlone (Account reference bic account) = Unit {0}
-IsAlone (Security reference isin kind) = Unit {0}
-IsAlone (Run reference day rule) = Unit {0}
-IsAlone entry = ⊥

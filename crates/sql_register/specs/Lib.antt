@@ -1,6 +1,7 @@
 pub mod RowsSaid
 pub mod Content
 pub mod Holds
+pub mod Posting
 pub mod Appending
 pub mod Kept
 pub mod Undone

@@ -1,23 +1,24 @@
 //! One entry more, with what it moves.
 ghost use Rattle.std.specs.Prelude.{◌≡◌, ℕ, ◌+◌, ◌-◌, ◌<◌, ◌≤◌, ◌^◌, List, length, None, IfOk, IsOk, OnOk};
 ghost use Rattle.desk_rules.specs.declared.answers.reply.Kept.{Kept};
-ghost use Rattle.desk_rules.specs.declared.history.entry.Entry.TheVariants.{Cancel, Instruct, Issue, PayIn, PayOut, Redeem};
+ghost use Rattle.desk_rules.specs.declared.history.entry.Entry.TheVariants.{Cancel};
+ghost use Rattle.desk_rules.specs.declared.history.entry.Sender.TheVariants.{Operator};
 ghost use Rattle.sql_rows.specs.Amounts.{AreAmounts};
-ghost use Rattle.sql_rows.specs.Changes.{SetsAmount, had};
 ghost use Rattle.desk_rules.specs.History.{number_of_key, reference_of, sender_of};
 ghost use Rattle.desk_rules.specs.WellFormed.{AreWellFormed, IsWellFormed};
 ghost use Rattle.sql_entries.specs.Entries.{AreEntries, EntryAdded, entries_in};
 ghost use Rattle.sql_entries.specs.Shown.{HasShortNumbers};
 ghost use Rattle.desk_register.specs.Changes.{CanAppend, appended};
-ghost use Rattle.sql_register.specs.Appending.{IsAlone};
 ghost use Rattle.sql_register.specs.Content.{content_in};
 ghost use Rattle.sql_register.specs.Holds.{Becomes, IsDesk};
+ghost use Rattle.sql_register.specs.Posting.{CanPost, Posts};
 ghost use Rattle.sql_tables.specs.Calls.{FailsForCause, Soundly, Writes, tables};
 
 use crate::numbers::checked;
-use desk_codes::{Bic, Isin};
+use crate::posting::{Direction, posting_of};
+use desk_codes::Bic;
 use desk_msg::CancelOrder;
-use desk_rules::{Entry, Instructed, Movement, Payment, Reply, Sender, well_formed};
+use desk_rules::{Entry, Reply, Sender, well_formed};
 use sql_entries::{add_entry, entry_count, number_of};
 use sql_rows::{AmountKey, add_standing, ask, put, take};
 use sql_tables::values::CORRUPT;
@@ -74,127 +75,46 @@ fn add_row<S: Alter>(conn: &mut Connection<S>, entry: &Entry, reply: &Reply) -> 
     Ok(number)
 }
 
-/// Adds an entry that moves nothing and asks for nothing.
-fn append_alone<S: Alter>(
+/// Posts an amount under a key. Where a debit finds less, the tables have broken their word.
+fn post<S: Alter>(
+    conn: &mut Connection<S>,
+    key: &AmountKey,
+    amount: u64,
+    direction: Direction,
+) -> Result<(), Error>
+    requires small { amount < 2 ^ 63 }
+    ensures changed { Soundly S.Store conn.old conn.new (AreAmounts (tables S.Store conn.old) → OnOk result (Posts direction (tables S.Store conn.old) (tables S.Store conn.new) key.now amount)) }
+    ensures write { Writes S.Store conn.old conn.new result }
+    ensures blame { Soundly S.Store conn.old conn.new (AreAmounts (tables S.Store conn.old) → CanPost direction (tables S.Store conn.old) key.now amount → FailsForCause S.Store conn.old conn.new result) }
+{
+    match direction {
+        Direction::Credit => put(conn, key, amount),
+        Direction::Debit => {
+            if take(conn, key, amount)? {
+                Ok(())
+            } else {
+                Err(CORRUPT)
+            }
+        }
+    }
+}
+
+/// Adds an entry of the operator's, with what it posts.
+fn append_command<S: Alter>(
     conn: &mut Connection<S>,
     entry: &Entry,
     reply: &Reply,
 ) -> Result<(), Error>
-    ensures changed { Soundly S.Store conn.old conn.new (IsDesk (tables S.Store conn.old) → IsAlone entry.now → (room : ℕ) → CanAppend room entry.now reply.now (content_in (tables S.Store conn.old)) → OnOk result (Becomes (tables S.Store conn.new) (appended entry.now reply.now (content_in (tables S.Store conn.old))))) }
+    ensures changed { Soundly S.Store conn.old conn.new (IsDesk (tables S.Store conn.old) → sender_of entry.now ≡ Operator → (room : ℕ) → CanAppend room entry.now reply.now (content_in (tables S.Store conn.old)) → OnOk result (Becomes (tables S.Store conn.new) (appended entry.now reply.now (content_in (tables S.Store conn.old))))) }
     ensures write { Writes S.Store conn.old conn.new result }
     ensures blame { Soundly S.Store conn.old conn.new (IsDesk (tables S.Store conn.old) → (room : ℕ) → room < 1_000_000_000 → CanAppend room entry.now reply.now (content_in (tables S.Store conn.old)) → FailsForCause S.Store conn.old conn.new result) }
 {
     add_row(conn, entry, reply)?;
-    Ok(())
-}
-
-/// Takes an amount off what is recorded under a key. Where there is less, the tables have broken their word.
-fn take_off<S: Alter>(conn: &mut Connection<S>, key: &AmountKey, amount: u64) -> Result<(), Error>
-    requires small { amount < 2 ^ 63 }
-    ensures changed { Soundly S.Store conn.old conn.new (AreAmounts (tables S.Store conn.old) → OnOk result ((amount ≤ had (tables S.Store conn.old) key.now) × SetsAmount (tables S.Store conn.old) (tables S.Store conn.new) key.now (had (tables S.Store conn.old) key.now - amount))) }
-    ensures write { Writes S.Store conn.old conn.new result }
-    ensures blame { Soundly S.Store conn.old conn.new (AreAmounts (tables S.Store conn.old) → 0 < amount → amount ≤ had (tables S.Store conn.old) key.now → FailsForCause S.Store conn.old conn.new result) }
-{
-    if take(conn, key, amount)? {
-        Ok(())
-    } else {
-        Err(CORRUPT)
-    }
-}
-
-/// No ISIN is an empty text.
-fn named(isin: Isin)
-    ensures { length isin ≡ 12 }
-{
-    let _ = isin.as_bytes();
-}
-
-/// Adds an issue, and puts its quantity on the account and on what is outstanding.
-fn append_issue<S: Alter>(
-    conn: &mut Connection<S>,
-    movement: &Movement,
-    reply: &Reply,
-) -> Result<(), Error>
-    ensures changed { Soundly S.Store conn.old conn.new (IsDesk (tables S.Store conn.old) → (room : ℕ) → CanAppend room (Issue movement.now) reply.now (content_in (tables S.Store conn.old)) → OnOk result (Becomes (tables S.Store conn.new) (appended (Issue movement.now) reply.now (content_in (tables S.Store conn.old))))) }
-    ensures write { Writes S.Store conn.old conn.new result }
-    ensures blame { Soundly S.Store conn.old conn.new (IsDesk (tables S.Store conn.old) → (room : ℕ) → room < 1_000_000_000 → CanAppend room (Issue movement.now) reply.now (content_in (tables S.Store conn.old)) → FailsForCause S.Store conn.old conn.new result) }
-{
-    named(movement.isin);
-    let held = AmountKey::Balance(movement.account, movement.isin);
-    let outstanding = AmountKey::Security(movement.isin);
-    add_row(conn, &Entry::Issue(*movement), reply)?;
-    put(conn, &held, movement.quantity)?;
-    put(conn, &outstanding, movement.quantity)
-}
-
-/// Adds a redemption, and takes its quantity off the account and off what is outstanding.
-fn append_redeem<S: Alter>(
-    conn: &mut Connection<S>,
-    movement: &Movement,
-    reply: &Reply,
-) -> Result<(), Error>
-    ensures changed { Soundly S.Store conn.old conn.new (IsDesk (tables S.Store conn.old) → (room : ℕ) → CanAppend room (Redeem movement.now) reply.now (content_in (tables S.Store conn.old)) → OnOk result (Becomes (tables S.Store conn.new) (appended (Redeem movement.now) reply.now (content_in (tables S.Store conn.old))))) }
-    ensures write { Writes S.Store conn.old conn.new result }
-    ensures blame { Soundly S.Store conn.old conn.new (IsDesk (tables S.Store conn.old) → (room : ℕ) → room < 1_000_000_000 → CanAppend room (Redeem movement.now) reply.now (content_in (tables S.Store conn.old)) → FailsForCause S.Store conn.old conn.new result) }
-{
-    named(movement.isin);
-    let held = AmountKey::Balance(movement.account, movement.isin);
-    let outstanding = AmountKey::Security(movement.isin);
-    add_row(conn, &Entry::Redeem(*movement), reply)?;
-    take_off(conn, &held, movement.quantity)?;
-    take_off(conn, &outstanding, movement.quantity)
-}
-
-/// Adds a pay in, and puts its amount on the participant's balance and on what is paid of the currency.
-fn append_pay_in<S: Alter>(
-    conn: &mut Connection<S>,
-    payment: &Payment,
-    reply: &Reply,
-) -> Result<(), Error>
-    ensures changed { Soundly S.Store conn.old conn.new (IsDesk (tables S.Store conn.old) → (room : ℕ) → CanAppend room (PayIn payment.now) reply.now (content_in (tables S.Store conn.old)) → OnOk result (Becomes (tables S.Store conn.new) (appended (PayIn payment.now) reply.now (content_in (tables S.Store conn.old))))) }
-    ensures write { Writes S.Store conn.old conn.new result }
-    ensures blame { Soundly S.Store conn.old conn.new (IsDesk (tables S.Store conn.old) → (room : ℕ) → room < 1_000_000_000 → CanAppend room (PayIn payment.now) reply.now (content_in (tables S.Store conn.old)) → FailsForCause S.Store conn.old conn.new result) }
-{
-    let cash = AmountKey::Cash(payment.bic, payment.ccy);
-    let paid = AmountKey::Currency(payment.ccy);
-    add_row(conn, &Entry::PayIn(*payment), reply)?;
-    put(conn, &cash, payment.amount)?;
-    put(conn, &paid, payment.amount)
-}
-
-/// Adds a pay out, and takes its amount off the participant's balance and off what is paid of the currency.
-fn append_pay_out<S: Alter>(
-    conn: &mut Connection<S>,
-    payment: &Payment,
-    reply: &Reply,
-) -> Result<(), Error>
-    ensures changed { Soundly S.Store conn.old conn.new (IsDesk (tables S.Store conn.old) → (room : ℕ) → CanAppend room (PayOut payment.now) reply.now (content_in (tables S.Store conn.old)) → OnOk result (Becomes (tables S.Store conn.new) (appended (PayOut payment.now) reply.now (content_in (tables S.Store conn.old))))) }
-    ensures write { Writes S.Store conn.old conn.new result }
-    ensures blame { Soundly S.Store conn.old conn.new (IsDesk (tables S.Store conn.old) → (room : ℕ) → room < 1_000_000_000 → CanAppend room (PayOut payment.now) reply.now (content_in (tables S.Store conn.old)) → FailsForCause S.Store conn.old conn.new result) }
-{
-    let cash = AmountKey::Cash(payment.bic, payment.ccy);
-    let paid = AmountKey::Currency(payment.ccy);
-    add_row(conn, &Entry::PayOut(*payment), reply)?;
-    take_off(conn, &cash, payment.amount)?;
-    take_off(conn, &paid, payment.amount)
-}
-
-/// Adds an instruction, which is unmatched yet.
-fn append_instruct<S: Alter>(
-    conn: &mut Connection<S>,
-    instructed: &Instructed,
-    reply: &Reply,
-) -> Result<(), Error>
-    ensures changed { Soundly S.Store conn.old conn.new (IsDesk (tables S.Store conn.old) → (room : ℕ) → CanAppend room (Instruct instructed.now.sender instructed.now.instruction) reply.now (content_in (tables S.Store conn.old)) → OnOk result (Becomes (tables S.Store conn.new) (appended (Instruct instructed.now.sender instructed.now.instruction) reply.now (content_in (tables S.Store conn.old))))) }
-    ensures write { Writes S.Store conn.old conn.new result }
-    ensures blame { Soundly S.Store conn.old conn.new (IsDesk (tables S.Store conn.old) → (room : ℕ) → room < 1_000_000_000 → CanAppend room (Instruct instructed.now.sender instructed.now.instruction) reply.now (content_in (tables S.Store conn.old)) → FailsForCause S.Store conn.old conn.new result) }
-{
-    let entry = Entry::Instruct {
-        sender: instructed.sender,
-        instruction: instructed.instruction,
+    let Some(posting) = posting_of(entry) else {
+        return Ok(());
     };
-    let number = add_row(conn, &entry, reply)?;
-    add_standing(conn, number)
+    post(conn, &posting.balance, posting.amount, posting.direction)?;
+    post(conn, &posting.total, posting.amount, posting.direction)
 }
 
 /// Adds a cancellation, and notes the request at the instruction that it names: of those that can be added, each names
@@ -228,24 +148,18 @@ pub fn append<S: Alter>(conn: &mut Connection<S>, entry: &Entry, reply: &Reply) 
     ensures blame { Soundly S.Store conn.old conn.new (IsDesk (tables S.Store conn.old) → (room : ℕ) → room < 1_000_000_000 → CanAppend room entry.now reply.now (content_in (tables S.Store conn.old)) → FailsForCause S.Store conn.old conn.new result) }
 {
     match entry {
+        Entry::Instruct { .. } => {
+            let number = add_row(conn, entry, reply)?;
+            add_standing(conn, number)
+        }
+        Entry::Cancel { sender, order } => append_cancel(conn, *sender, order, reply),
         Entry::Participant { .. }
         | Entry::Account { .. }
         | Entry::Security { .. }
-        | Entry::Run { .. } => append_alone(conn, entry, reply),
-        Entry::Issue(movement) => append_issue(conn, movement, reply),
-        Entry::Redeem(movement) => append_redeem(conn, movement, reply),
-        Entry::PayIn(payment) => append_pay_in(conn, payment, reply),
-        Entry::PayOut(payment) => append_pay_out(conn, payment, reply),
-        Entry::Instruct {
-            sender,
-            instruction,
-        } => {
-            let instructed = Instructed {
-                sender: *sender,
-                instruction: *instruction,
-            };
-            append_instruct(conn, &instructed, reply)
-        }
-        Entry::Cancel { sender, order } => append_cancel(conn, *sender, order, reply),
+        | Entry::Issue(_)
+        | Entry::Redeem(_)
+        | Entry::PayIn(_)
+        | Entry::PayOut(_)
+        | Entry::Run { .. } => append_command(conn, entry, reply),
     }
 }

@@ -1,21 +1,32 @@
 //! The calls of a register in SQL.
+ghost use Rattle.sql_rows.specs.Messages.{IsSendable};
 
 use crate::fault::{fault_of, told};
+use crate::pairing::stand_both;
+use crate::settling::state_then;
 use crate::sql_register::SqlRegister;
 use crate::undoing::take_back;
-use crate::{appending, cancelling, looking, pairing, sending, settling, walking};
+use crate::{appending, cancelling, looking, settling, walking};
 use desk_codes::{AccountId, Bic, Ccy, Day, Isin, Reference};
-use desk_msg::{Instruction, Kind};
+use desk_msg::{Instruction, Kind, Reason};
 use desk_register::{Fault, Holding, KnownPair, Outcome, Register, Stage, ToldRegister};
-use desk_rules::{Entry, Lack, Place, Reply, Sender, Sent, Standing};
+use desk_rules::{Entry, Lack, Place, Reply, Sender, Sent, Standing, State};
 use sql_entries::{
     entry_at, entry_count, is_participant, kind_of, last_run, number_of, owner_of, reply_at,
     security_after,
 };
-use sql_rows::{AmountKey, amount, confirmation_of, sent_at, sent_count, standing};
+use sql_rows::{AmountKey, add_sent, amount, confirmation_of, sent_at, sent_count, standing};
 use sql_tables::control;
 use sqlite::Alter;
 use std::alloc::Global;
+
+/// A message is one that the desk may send.
+fn sendable(message: &Sent)
+    ensures { IsSendable message.now }
+{
+    let _ = message.bic.as_bytes();
+    let _mt = message.mt;
+}
 
 impl<S: Alter> Register for SqlRegister<S> {
     ghost use Rattle.std.specs.Prelude.{false};
@@ -180,11 +191,11 @@ impl<S: Alter> Register for SqlRegister<S> {
     }
 
     fn held(&mut self, _alloc: Global, isin: Isin) -> Result<u64, Fault> {
-        told(&mut self.stage, looking::held(&mut self.conn, isin))
+        told(&mut self.stage, sql_rows::held(&mut self.conn, isin))
     }
 
     fn held_cash(&mut self, _alloc: Global, ccy: Ccy) -> Result<u64, Fault> {
-        told(&mut self.stage, looking::held_cash(&mut self.conn, ccy))
+        told(&mut self.stage, sql_rows::held_cash(&mut self.conn, ccy))
     }
 
     fn sent_count(&mut self, _alloc: Global) -> Result<u64, Fault> {
@@ -212,7 +223,12 @@ impl<S: Alter> Register for SqlRegister<S> {
     fn pair(&mut self, _alloc: Global, earlier: u64, later: u64) -> Result<(), Fault> {
         told(
             &mut self.stage,
-            pairing::pair(&mut self.conn, earlier, later),
+            stand_both(
+                &mut self.conn,
+                earlier,
+                later,
+                State::Matched(Reason::Future),
+            ),
         )
     }
 
@@ -230,12 +246,13 @@ impl<S: Alter> Register for SqlRegister<S> {
     fn cancel_pair(&mut self, _alloc: Global, earlier: u64, later: u64) -> Result<(), Fault> {
         told(
             &mut self.stage,
-            pairing::cancel_pair(&mut self.conn, earlier, later),
+            stand_both(&mut self.conn, earlier, later, State::Cancelled),
         )
     }
 
     fn send(&mut self, _alloc: Global, message: Sent) -> Result<(), Fault> {
-        told(&mut self.stage, sending::send(&mut self.conn, &message))
+        sendable(&message);
+        told(&mut self.stage, add_sent(&mut self.conn, &message))
     }
 }
 
@@ -249,7 +266,12 @@ impl<S: Alter> ToldRegister for SqlRegister<S> {
     ) -> Result<(), Fault> {
         told(
             &mut self.stage,
-            settling::wait_for(&mut self.conn, earlier, later, lack),
+            stand_both(
+                &mut self.conn,
+                earlier,
+                later,
+                state_then(Outcome::Lacks(lack)),
+            ),
         )
     }
 

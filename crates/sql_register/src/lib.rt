@@ -3,9 +3,9 @@
 //!
 //! `sql_register.rt` has the struct, `making.rt` makes one in a database that has no table, or over tables that are a desk's,
 //! and `calls.rt` has the calls of the law: each is one function over a connection, whose end `fault.rt` tells of the register.
-//! `looking` finds what stands in one row, `walking` what is found among many, `appending`, `pairing`, `settling`, `cancelling` and
-//! `sending` change, `undoing` takes a transaction back, and `numbers` says which numbers the tables can hold. Nothing is known of the
-//! tables beside them. Begin with specs/Content.antt, what the tables say, and specs/Holds.antt, what they keep true.
+//! `looking` finds what stands in one row, `walking` what is found among many, `appending`, `pairing`, `settling` and `cancelling`
+//! change, `posting` says what an entry moves, `undoing` takes a transaction back, and `numbers` says which numbers the tables can
+//! hold. Nothing is known of the tables beside them. Begin with specs/Content.antt, what the tables say, and specs/Holds.antt, what they keep true.
 #![tactic(auto)]
 
 mod appending;
@@ -16,7 +16,7 @@ mod looking;
 mod making;
 mod numbers;
 mod pairing;
-mod sending;
+mod posting;
 mod settling;
 mod sql_register;
 mod undoing;

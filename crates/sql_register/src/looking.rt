@@ -3,14 +3,14 @@ ghost use Rattle.std.specs.Prelude.{◌≡◌, Some, option_and_then, IfOk, IsOk
 ghost use Rattle.desk_rules.specs.Content.{history_of};
 ghost use Rattle.desk_rules.specs.History.{instructed, instruction_at};
 ghost use Rattle.desk_rules.specs.declared.history.entry.Instructed.{Instructed};
-ghost use Rattle.desk_register.specs.Looked.{held_cash_of, held_of, IsHoldingAfter};
+ghost use Rattle.desk_register.specs.Looked.{IsHoldingAfter};
 ghost use Rattle.sql_register.specs.Content.{content_in};
 ghost use Rattle.sql_register.specs.Holds.{IsDesk, holding_found};
 ghost use Rattle.sql_rows.specs.Amounts.{AreAmounts};
 ghost use Rattle.sql_rows.specs.Changes.{had};
 ghost use Rattle.sql_tables.specs.Calls.{FailsForCause, Looks, Soundly, tables};
 
-use desk_codes::{AccountId, Ccy, Isin};
+use desk_codes::{AccountId, Isin};
 use desk_register::Holding;
 use desk_rules::{Entry, Instructed};
 use sql_entries::entry_at;
@@ -26,24 +26,6 @@ pub fn recorded<S: Alter>(conn: &mut Connection<S>, key: &AmountKey) -> Result<u
     ensures blame { Soundly S.Store conn.old conn.new (AreAmounts (tables S.Store conn.old) → FailsForCause S.Store conn.old conn.new result) }
 {
     Ok(amount(conn, key)?.unwrap_or(0))
-}
-
-/// What all registered accounts hold of a security.
-pub fn held<S: Alter>(conn: &mut Connection<S>, isin: Isin) -> Result<u64, Error>
-    ensures value { Soundly S.Store conn.old conn.new (IsDesk (tables S.Store conn.old) → IfOk result (λ r. r ≡ held_of (content_in (tables S.Store conn.old)) isin)) }
-    ensures look { Looks S.Store conn.old conn.new result }
-    ensures blame { Soundly S.Store conn.old conn.new (IsDesk (tables S.Store conn.old) → FailsForCause S.Store conn.old conn.new result) }
-{
-    sql_rows::held(conn, isin)
-}
-
-/// What all registered participants have of a currency, in minor units.
-pub fn held_cash<S: Alter>(conn: &mut Connection<S>, ccy: Ccy) -> Result<u64, Error>
-    ensures value { Soundly S.Store conn.old conn.new (IsDesk (tables S.Store conn.old) → IfOk result (λ r. r ≡ held_cash_of (content_in (tables S.Store conn.old)) ccy)) }
-    ensures look { Looks S.Store conn.old conn.new result }
-    ensures blame { Soundly S.Store conn.old conn.new (IsDesk (tables S.Store conn.old) → FailsForCause S.Store conn.old conn.new result) }
-{
-    sql_rows::held_cash(conn, ccy)
 }
 
 fn holding_of(found: Option<(Isin, u64)>) -> Option<Holding>

@@ -1,19 +1,18 @@
 //! A matched pair is tried: it settles, or it lacks something.
-ghost use Rattle.std.specs.Prelude.{◌≡◌, ◌≢◌, ℕ, ◌+◌, ◌<◌, ◌^◌, [], true, Some, IfOk, OnOk};
+ghost use Rattle.std.specs.Prelude.{◌≡◌, ◌≢◌, ℕ, [], true, Some, IfOk, OnOk};
 ghost use Rattle.sqlite.specs.Held.{state};
 ghost use Rattle.desk_rules.specs.declared.history.entry.Instructed.{Instructed};
 ghost use Rattle.sql_tables.specs.Calls.{FailsForCause, Looks, Soundly, Writes, tables};
 ghost use Rattle.sql_tables.specs.Ends.{Stays};
 ghost use Rattle.sql_rows.specs.Amounts.{AreAmounts};
-ghost use Rattle.desk_register.specs.Changes.{CanCancelPair, CanSettle, FitsCash, IsPairAt, SidesFit, TriesPair};
-ghost use Rattle.desk_register.specs.Told.{waiting};
+ghost use Rattle.desk_register.specs.Changes.{CanSettle, FitsCash, IsPairAt, SidesFit, TriesPair};
 ghost use Rattle.sql_register.specs.Content.{content_in};
-ghost use Rattle.sql_register.specs.Holds.{Becomes, IsDesk};
-ghost use Rattle.sql_register.specs.Settling.{state_then, more_held, more_cash, AmountsSo, IsMarked, IsTrial, MovesBoth, MovesLegs, TakesCash, TakesHeld};
+ghost use Rattle.sql_register.specs.Holds.{IsDesk};
+ghost use Rattle.sql_register.specs.Settling.{state_then, more_cash, AmountsSo, IsMarked, IsTrial, MovesBoth, MovesLegs, TakesCash};
 
 use crate::looking::instruction;
 use crate::pairing::stand_both;
-use desk_codes::{AccountId, Bic, Isin};
+use desk_codes::Bic;
 use desk_msg::{Cash, Reason};
 use desk_register::{KnownPair, Outcome};
 use desk_rules::{Instructed, Lack, State};
@@ -22,38 +21,6 @@ use sql_tables::control::{go_back, release, save};
 use sql_tables::values::CORRUPT;
 use sqlite::{Alter, Connection, Error};
 use std::alloc::Global;
-
-/// Takes a quantity off an account, where it holds as much: true.
-fn take_held<S: Alter>(
-    conn: &mut Connection<S>,
-    account: AccountId,
-    isin: Isin,
-    quantity: u64,
-) -> Result<bool, Error>
-    requires some { 0 < quantity }
-    requires small { quantity < 2 ^ 63 }
-    ensures changed { Soundly S.Store conn.old conn.new (AreAmounts (tables S.Store conn.old) → IfOk result (TakesHeld (tables S.Store conn.old) (tables S.Store conn.new) account isin quantity)) }
-    ensures write { Writes S.Store conn.old conn.new result }
-    ensures blame { Soundly S.Store conn.old conn.new (AreAmounts (tables S.Store conn.old) → FailsForCause S.Store conn.old conn.new result) }
-{
-    take(conn, &AmountKey::Balance(account, isin), quantity)
-}
-
-/// Puts a quantity on an account.
-fn put_held<S: Alter>(
-    conn: &mut Connection<S>,
-    account: AccountId,
-    isin: Isin,
-    quantity: u64,
-) -> Result<(), Error>
-    requires small { quantity < 2 ^ 63 }
-    ensures changed { Soundly S.Store conn.old conn.new (AreAmounts (tables S.Store conn.old) → (content_in (tables S.Store conn.old)).position account isin + quantity < 2 ^ 63
-        → OnOk result (AmountsSo (tables S.Store conn.old) (tables S.Store conn.new) (more_held (content_in (tables S.Store conn.old)).position account isin quantity) (content_in (tables S.Store conn.old)).cash)) }
-    ensures write { Writes S.Store conn.old conn.new result }
-    ensures blame { Soundly S.Store conn.old conn.new (AreAmounts (tables S.Store conn.old) → (content_in (tables S.Store conn.old)).position account isin + quantity < 2 ^ 63 → FailsForCause S.Store conn.old conn.new result) }
-{
-    put(conn, &AmountKey::Balance(account, isin), quantity)
-}
 
 /// Takes the cash that is asked for off a participant, where it has as much, or where none is asked for: true.
 fn take_cash<S: Alter>(
@@ -97,13 +64,15 @@ fn move_legs<S: Alter>(conn: &mut Connection<S>, pair: &KnownPair) -> Result<Out
     let isin = pair.later.instruction.isin;
     let quantity = pair.later.instruction.quantity;
     let cash = pair.later.instruction.cash;
-    if !take_held(conn, from.instruction.account, isin, quantity)? {
+    let given = AmountKey::Balance(from.instruction.account, isin);
+    let received = AmountKey::Balance(to.instruction.account, isin);
+    if !take(conn, &given, quantity)? {
         return Ok(Outcome::Lacks(Lack::Securities));
     }
     if !take_cash(conn, to.sender, cash)? {
         return Ok(Outcome::Lacks(Lack::Money));
     }
-    put_held(conn, to.instruction.account, isin, quantity)?;
+    put(conn, &received, quantity)?;
     put_cash(conn, from.sender, cash)?;
     Ok(Outcome::Settled)
 }
@@ -124,7 +93,7 @@ fn move_both<S: Alter>(conn: &mut Connection<S>, pair: &KnownPair) -> Result<Out
 }
 
 /// How both instructions of a pair stand that has fared so.
-fn state_then(outcome: Outcome) -> State
+pub fn state_then(outcome: Outcome) -> State
     ensures same { result ≡ state_then outcome }
     ensures instruction { result ≢ State.NoInstruction }
 {
@@ -132,19 +101,6 @@ fn state_then(outcome: Outcome) -> State
         Outcome::Settled => State::Settled,
         Outcome::Lacks(Lack::Securities) => State::Matched(Reason::Lack),
         Outcome::Lacks(Lack::Money) => State::Matched(Reason::Money),
-    }
-}
-
-/// The number of the mate of an instruction.
-fn mate_of<S: Alter>(conn: &mut Connection<S>, number: u64) -> Result<u64, Error>
-    ensures value { Soundly S.Store conn.old conn.new (IsDesk (tables S.Store conn.old) → IfOk result (λ mate. ((content_in (tables S.Store conn.old)).standing number).mate ≡ Some mate)) }
-    ensures look { Looks S.Store conn.old conn.new result }
-    ensures blame { Soundly S.Store conn.old conn.new (IsDesk (tables S.Store conn.old) → (mate : ℕ) → ((content_in (tables S.Store conn.old)).standing number).mate ≡ Some mate → FailsForCause S.Store conn.old conn.new result) }
-{
-    let standing = standing(conn, number)?;
-    match standing.mate {
-        Some(mate) => Ok(mate),
-        None => Err(CORRUPT),
     }
 }
 
@@ -159,7 +115,10 @@ fn pair_at<S: Alter>(
     ensures blame { Soundly S.Store conn.old conn.new (IsDesk (tables S.Store conn.old) → (mate : ℕ) (earlier later : Instructed) → IsPairAt (content_in (tables S.Store conn.old)) number mate earlier later → FailsForCause S.Store conn.old conn.new result) }
 {
     let later = instruction(conn, alloc, number)?;
-    let mate = mate_of(conn, number)?;
+    let standing = standing(conn, number)?;
+    let Some(mate) = standing.mate else {
+        return Err(CORRUPT);
+    };
     let earlier = instruction(conn, alloc, mate)?;
     Ok(KnownPair {
         mate,
@@ -199,18 +158,4 @@ pub fn settle_pair<S: Alter>(
 {
     let pair = pair_at(conn, alloc, number)?;
     settle_found(conn, &pair)
-}
-
-/// Lets both instructions of a matched pair, by their numbers, wait for what it lacks.
-pub fn wait_for<S: Alter>(
-    conn: &mut Connection<S>,
-    earlier: u64,
-    later: u64,
-    lack: Lack,
-) -> Result<(), Error>
-    ensures changed { Soundly S.Store conn.old conn.new (IsDesk (tables S.Store conn.old) → CanCancelPair (content_in (tables S.Store conn.old)) earlier later → OnOk result (Becomes (tables S.Store conn.new) (waiting earlier later lack (content_in (tables S.Store conn.old))))) }
-    ensures write { Writes S.Store conn.old conn.new result }
-    ensures blame { Soundly S.Store conn.old conn.new (IsDesk (tables S.Store conn.old) → CanCancelPair (content_in (tables S.Store conn.old)) earlier later → FailsForCause S.Store conn.old conn.new result) }
-{
-    stand_both(conn, earlier, later, state_then(Outcome::Lacks(lack)))
 }

@@ -6,11 +6,9 @@ ghost use Rattle.desk_rules.specs.Content.{Content, history_of};
 ghost use Rattle.desk_rules.specs.History.{instruction_at};
 ghost use Rattle.desk_rules.specs.declared.history.entry.Instructed.{Instructed};
 ghost use Rattle.desk_register.specs.Looked.{IsDuePairAfter, IsFirstOpposite};
-ghost use Rattle.sql_entries.specs.Opposites.{IsNextOpposite};
 ghost use Rattle.sql_register.specs.Content.{content_in};
 ghost use Rattle.sql_register.specs.Holds.{IsDesk};
 ghost use Rattle.sql_register.specs.Walking.{is_unmatched, sooner, IsDueAt, IsPairAbove, IsCandidateAbove};
-ghost use Rattle.sql_rows.specs.Standings.{IsNextMatched};
 ghost use Rattle.sql_tables.specs.Calls.{FailsForCause, Looks, Soundly, tables};
 
 use crate::looking::instruction;
@@ -26,8 +24,7 @@ use std::alloc::Global;
 /// The number that was found above another, where a register can have an entry of it; else the tables have broken their word.
 fn above(found: Option<u64>, after: u64) -> Result<Option<u64>, Error>
     ensures same { IfOk result (λ r. r ≡ found) }
-    ensures rising { IfOk result (λ r. IfSome r (λ n. after < n)) }
-    ensures small { IfOk result (λ r. IfSome r (λ n. n < 1_000_000_000)) }
+    ensures within { IfOk result (λ r. IfSome r (λ n. (after < n) × (n < 1_000_000_000))) }
     ensures all { IfSome found (λ n. (after < n) × (n < 1_000_000_000)) → IsOk result }
 {
     let Some(number) = found else {
@@ -38,24 +35,6 @@ fn above(found: Option<u64>, after: u64) -> Result<Option<u64>, Error>
     } else {
         Err(CORRUPT)
     }
-}
-
-/// The least number above one of an instruction that is opposite to one of this sender, whether it waits or not.
-fn opposite_above<S: Alter>(
-    conn: &mut Connection<S>,
-    sender: Bic,
-    instruction: &Instruction,
-    after: u64,
-) -> Result<Option<u64>, Error>
-    requires { after < 2 ^ 63 }
-    ensures value { Soundly S.Store conn.old conn.new (IsDesk (tables S.Store conn.old) → IfOk result (IsNextOpposite (history_of (content_in (tables S.Store conn.old))) (record { sender = sender; instruction = instruction.now }) after)) }
-    ensures rising { IfOk result (λ r. IfSome r (λ n. after < n)) }
-    ensures small { IfOk result (λ r. IfSome r (λ n. n < 1_000_000_000)) }
-    ensures look { Looks S.Store conn.old conn.new result }
-    ensures blame { Soundly S.Store conn.old conn.new (IsDesk (tables S.Store conn.old) → FailsForCause S.Store conn.old conn.new result) }
-{
-    let found = next_opposite(conn, sender, instruction, after)?;
-    above(found, after)
 }
 
 /// Whether an instruction that stands so is unmatched.
@@ -74,12 +53,12 @@ fn candidate_above<S: Alter>(
 ) -> Result<Option<(u64, bool)>, Error>
     requires { after < 2 ^ 63 }
     ensures value { Soundly S.Store conn.old conn.new (IsDesk (tables S.Store conn.old) → IfOk result (IsCandidateAbove (content_in (tables S.Store conn.old)) (record { sender = sender; instruction = instruction.now }) after)) }
-    ensures rising { IfOk result (λ r. IfSome r (λ found. after < found.0)) }
-    ensures small { IfOk result (λ r. IfSome r (λ found. found.0 < 1_000_000_000)) }
+    ensures within { IfOk result (λ r. IfSome r (λ found. (after < found.0) × (found.0 < 1_000_000_000))) }
     ensures look { Looks S.Store conn.old conn.new result }
     ensures blame { Soundly S.Store conn.old conn.new (IsDesk (tables S.Store conn.old) → FailsForCause S.Store conn.old conn.new result) }
 {
-    let Some(number) = opposite_above(conn, sender, instruction, after)? else {
+    let found = next_opposite(conn, sender, instruction, after)?;
+    let Some(number) = above(found, after)? else {
         return Ok(None);
     };
     let standing = standing(conn, number)?;
@@ -104,19 +83,6 @@ pub fn first_opposite<S: Alter>(
         after = number;
     }
     Ok(None)
-}
-
-/// The least number above one whose instruction is matched and waits to be settled.
-fn matched_above<S: Alter>(conn: &mut Connection<S>, after: u64) -> Result<Option<u64>, Error>
-    requires { after < 2 ^ 63 }
-    ensures value { Soundly S.Store conn.old conn.new (IsDesk (tables S.Store conn.old) → IfOk result (IsNextMatched (tables S.Store conn.old) after)) }
-    ensures rising { IfOk result (λ r. IfSome r (λ n. after < n)) }
-    ensures small { IfOk result (λ r. IfSome r (λ n. n < 1_000_000_000)) }
-    ensures look { Looks S.Store conn.old conn.new result }
-    ensures blame { Soundly S.Store conn.old conn.new (IsDesk (tables S.Store conn.old) → FailsForCause S.Store conn.old conn.new result) }
-{
-    let found = next_matched(conn, after)?;
-    above(found, after)
 }
 
 /// The place of a number's matched pair, by what stands at the number, where it is due by a day and past a place.
@@ -146,24 +112,6 @@ fn place_due(
     Some(found)
 }
 
-/// The place of the matched pair of which the instruction of this number is the later one, where it is due by a day and past a
-/// place.
-fn due_at<S: Alter>(
-    conn: &mut Connection<S>,
-    alloc: Global,
-    number: u64,
-    day: Day,
-    place: Option<Place>,
-) -> Result<Option<Place>, Error>
-    ensures value { Soundly S.Store conn.old conn.new (IsDesk (tables S.Store conn.old) → IfOk result (IsDueAt (content_in (tables S.Store conn.old)) (number_of day) place number)) }
-    ensures look { Looks S.Store conn.old conn.new result }
-    ensures blame { Soundly S.Store conn.old conn.new (IsDesk (tables S.Store conn.old) → (i : Instructed) → instruction_at (history_of (content_in (tables S.Store conn.old))) number ≡ Some i → FailsForCause S.Store conn.old conn.new result) }
-{
-    let standing = standing(conn, number)?;
-    let later = instruction(conn, alloc, number)?;
-    Ok(place_due(number, standing, &later, day, place))
-}
-
 /// The least number above one whose instruction is matched, and the place of its pair where that is due by a day and past a place.
 fn pair_above<S: Alter>(
     conn: &mut Connection<S>,
@@ -174,16 +122,17 @@ fn pair_above<S: Alter>(
 ) -> Result<Option<(u64, Option<Place>)>, Error>
     requires { after < 2 ^ 63 }
     ensures value { Soundly S.Store conn.old conn.new (IsDesk (tables S.Store conn.old) → IfOk result (IsPairAbove (tables S.Store conn.old) (number_of day) place after)) }
-    ensures rising { IfOk result (λ r. IfSome r (λ found. after < found.0)) }
-    ensures small { IfOk result (λ r. IfSome r (λ found. found.0 < 1_000_000_000)) }
+    ensures within { IfOk result (λ r. IfSome r (λ found. (after < found.0) × (found.0 < 1_000_000_000))) }
     ensures look { Looks S.Store conn.old conn.new result }
     ensures blame { Soundly S.Store conn.old conn.new (IsDesk (tables S.Store conn.old) → FailsForCause S.Store conn.old conn.new result) }
 {
-    let Some(number) = matched_above(conn, after)? else {
+    let found = next_matched(conn, after)?;
+    let Some(number) = above(found, after)? else {
         return Ok(None);
     };
-    let due = due_at(conn, alloc, number, day, place)?;
-    Ok(Some((number, due)))
+    let standing = standing(conn, number)?;
+    let later = instruction(conn, alloc, number)?;
+    Ok(Some((number, place_due(number, standing, &later, day, place))))
 }
 
 /// The sooner one of two places; where there is only one, that.

@@ -1,5 +1,4 @@
-use Rattle.std.proofs.Common.{Ok, Err, Result, OnOk, Some, length, true, ◌≡◌, ◌∙◌, ℕ, List, ap, subst, sym, arith, ◌≢◌, ◌+◌, ◌<◌, refl}
-use Rattle.std.proofs.lemmas.Result.{err_from_is_err_and}
+use Rattle.std.proofs.Common.{Ok, Err, Result, OnOk, Option, Some, length, true, ◌≡◌, ◌∙◌, ℕ, List, ap, subst, sym, arith, ◌≢◌, ◌+◌, ◌<◌, refl}
 use Rattle.sqlite.specs.Effect.{Database}
 use Rattle.sqlite.specs.Held.{state}
 use Rattle.sqlite.specs.State.{State, HasCleanDisk}
@@ -14,7 +13,7 @@ use Rattle.desk_rules.specs.Content.{history_of}
 use Rattle.desk_rules.specs.History.{number_of_key}
 use Rattle.sql_rows.specs.Standings.{StandingsChanged, standing_in, AreStandings}
 use Rattle.sql_tables.specs.Ends.{Stays, ForCause}
-use Rattle.sql_tables.proofs.CallLemmas.{look_write, write_err, write_then, later_then}
+use Rattle.sql_tables.proofs.CallLemmas.{look_write, write_then, later_then}
 use Rattle.sql_register.specs.Content.{content_in}
 use Rattle.sql_register.specs.Holds.{Becomes, IsDesk}
 use Rattle.sql_register.proofs.AppendedCancellation.{cancel_becomes, cancel_standings, asked_stands, named_above, named_below, names_known}
@@ -23,7 +22,9 @@ use Rattle.desk_rules.specs.declared.history.standing.State.TheVariants.{NoInstr
 use Rattle.sql_entries.specs.Entries.{AreEntries}
 use Rattle.sql_tables.proofs.ResultLemmas.{no_error, on_error}
 use Rattle.sql_register.proofs.CauseLemmas.{caused_error, caused_from, looked, wrote_then}
+use Rattle.sql_register.proofs.FailedLemmas.{not_done, write_fell, write_handed}
 use Rattle.sql_register.proofs.ReadLemmas.{was_clean}
+use Rattle.sql_register.proofs.WalkLemmas.{look_as}
 use Rattle.sql_register.proofs.appending.append_cancel.Goals as goal
 
 becomes : (old d0 : Database) (d1 new : State) (sender : List ℕ) (order : CancelOrder) (reply : Reply) (room k : ℕ) (r : Result (Unit {0}) Error) → d0 ≡ old → (desk : IsDesk d0) → (can : CanAppend room (Cancel sender order) reply (content_in d0))
@@ -60,8 +61,39 @@ returns-in_err-add_row-clause-write g c =
     let old = state g.S.Store c.args.conn.now in
     let d0 = state g.S.Store c.number_of.new.conn in
     let d1 = state g.S.Store c.add_row.new.conn in
-    let p = err_from_is_err_and c.from_residual-in_err-add_row.result c.from_residual-in_err-add_row.ensures.1 in
-    rw (p.1, p.2) (write_then _ (Err c.in_err-add_row.field-0.0) old d0 d1 (look_write _ old d0 c.in_ok-number.ensures.look) (write_err c.in_err-add_row.field-0.0 d0 d1 c.in_err-add_row.ensures.write))
+    write_fell c.from_residual-in_err-add_row.result c.in_err-add_row.field-0.0 c.from_residual-in_err-add_row.ensures.1 ℕ c.in_ok-number.field-0 old d0 d1 (look_write (Ok c.in_ok-number.field-0) old d0 c.in_ok-number.ensures.look) c.in_err-add_row.ensures.write
+
+pub returns-in_err-number-clause-changed : goal.returns-in_err-number-clause-changed
+returns-in_err-number-clause-changed g c clean is_open has desk room can = not_done c.from_residual.result c.in_err-number.field-0.0 c.from_residual.ensures.1 _
+
+pub returns-in_err-number-clause-write : goal.returns-in_err-number-clause-write
+returns-in_err-number-clause-write g c =
+    let old = state g.S.Store c.args.conn.now in
+    let d0 = state g.S.Store c.number_of.new.conn in
+    let e = c.in_err-number.field-0.0 in
+    write_handed c.from_residual.result e c.from_residual.ensures.1 (Option ℕ) old d0 (look_write (Err e) old d0 c.in_err-number.ensures.look)
+
+pub returns-in_default-clause-changed : goal.returns-in_default-clause-changed
+returns-in_default-clause-changed g c clean is_open has desk room can = tt
+
+pub returns-in_default-clause-write : goal.returns-in_default-clause-write
+returns-in_default-clause-write g c =
+    let old = state g.S.Store c.args.conn.now in
+    let d0 = state g.S.Store c.number_of.new.conn in
+    look_write _ old d0 (look_as c.in_ok-number.field-0 _ old d0 c.in_ok-number.ensures.look)
+
+pub returns-in_err-named-clause-changed : goal.returns-in_err-named-clause-changed
+returns-in_err-named-clause-changed g c clean is_open has desk room can = not_done c.from_residual-in_err-named.result c.in_err-named.field-0.0 c.from_residual-in_err-named.ensures.1 _
+
+pub returns-in_err-named-clause-write : goal.returns-in_err-named-clause-write
+returns-in_err-named-clause-write g c =
+    let old = state g.S.Store c.args.conn.now in
+    let d0 = state g.S.Store c.number_of.new.conn in
+    let e = c.in_err-named.field-0.0 in
+    write_handed c.from_residual-in_err-named.result e c.from_residual-in_err-named.ensures.1 (Unit {0}) old d0 (look_write (Err e) old d0 (look_as c.in_ok-number.field-0 e old d0 c.in_ok-number.ensures.look))
+
+pub returns-in_err-add_row-clause-changed : goal.returns-in_err-add_row-clause-changed
+returns-in_err-add_row-clause-changed g c clean is_open has desk room can = not_done c.from_residual-in_err-add_row.result c.in_err-add_row.field-0.0 c.from_residual-in_err-add_row.ensures.1 _
 
 pub returns-clause-write : goal.returns-clause-write
 returns-clause-write g c =
@@ -69,7 +101,7 @@ returns-clause-write g c =
     let d0 = state g.S.Store c.number_of.new.conn in
     let d1 = state g.S.Store c.add_row.new.conn in
     let new = state g.S.Store c.ask.new.conn in
-    write_then c.in_ok-add_row.field-0 c.ask.result old d1 new (write_then _ (Ok c.in_ok-add_row.field-0) old d0 d1 (look_write _ old d0 c.in_ok-number.ensures.look) c.in_ok-add_row.ensures.write) c.ask.ensures.write
+    write_then c.in_ok-add_row.field-0 c.ask.result old d1 new (write_then c.in_ok-number.field-0 (Ok c.in_ok-add_row.field-0) old d0 d1 (look_write (Ok c.in_ok-number.field-0) old d0 c.in_ok-number.ensures.look) c.in_ok-add_row.ensures.write) c.ask.ensures.write
 
 pub returns-in_err-number-clause-blame : goal.returns-in_err-number-clause-blame
 returns-in_err-number-clause-blame g c clean is_open has desk room small can =

@@ -1,4 +1,5 @@
-use Rattle.std.proofs.Common.{◌∙◌, ap, Option}
+use Rattle.std.proofs.Common.{◌∙◌, ap, sym, Option}
+use Rattle.std.proofs.lemmas.Result.{IfOk-weaker}
 use Rattle.std.specs.Prelude.{option_and_then}
 use Rattle.sqlite.specs.Held.{state}
 use Rattle.desk_rules.specs.History.{instructed}
@@ -7,6 +8,7 @@ use Rattle.sql_tables.specs.Ends.{ForCause}
 use Rattle.sql_tables.proofs.ResultLemmas.{no_error, on_error}
 use Rattle.sql_register.specs.Content.{content_in}
 use Rattle.sql_register.proofs.FailedLemmas.{look_only, no_value}
+use Rattle.sql_register.proofs.WalkLemmas.{look_any}
 use Rattle.sql_register.proofs.looking.instruction.Goals as goal
 
 pub returns-in_err-found-clause-blame : goal.returns-in_err-found-clause-blame
@@ -27,3 +29,12 @@ returns-in_err-found-clause-value g c clean is_open has desk = no_value c.from_r
 
 pub returns-in_err-found-clause-look : goal.returns-in_err-found-clause-look
 returns-in_err-found-clause-look g c = look_only c.from_residual.result c.in_err-found.field-0.0 c.from_residual.ensures.1 (Option Entry) (state g.S.Store c.args.conn.now) (state g.S.Store c.entry_at.new.conn) c.in_err-found.ensures.look
+
+pub returns-clause-value : goal.returns-clause-value
+returns-clause-value g c clean is_open has desk =
+    let s0 = state g.S.Store c.args.conn.now in
+    let found = c.in_ok-found.ensures.value clean is_open has (content_in s0.now).register desk.entries in
+    IfOk-weaker c.instructed_by.result _ _ (λ i at. sym (ap (λ (o : Option Entry). option_and_then instructed o) found) ∙ at) c.instructed_by.ensures.value
+
+pub returns-clause-look : goal.returns-clause-look
+returns-clause-look g c = look_any c.in_ok-found.found c.instructed_by.result (state g.S.Store c.args.conn.now) (state g.S.Store c.entry_at.new.conn) c.in_ok-found.ensures.look

@@ -1,4 +1,4 @@
-use Rattle.std.proofs.Common.{◌∙◌, ap, sym, subst}
+use Rattle.std.proofs.Common.{◌∙◌, ap, refl, sym, subst}
 use Rattle.sqlite.specs.Held.{state}
 use Rattle.sqlite.specs.State.{HasCleanDisk}
 use Rattle.desk_register.specs.Changes.{empty_content}
@@ -11,6 +11,7 @@ use Rattle.sql_tables.proofs.VersionLemmas.{no_version}
 use Rattle.sql_register.specs.Holds.{Becomes}
 use Rattle.sql_register.proofs.MadeLemmas.{fallen_kept, written_kept}
 use Rattle.sql_register.proofs.EmptyContent.{blank_empty, empty_becomes, version_empty}
+use Rattle.sql_register.proofs.FailedLemmas.{not_done}
 use Rattle.sql_register.proofs.ReadLemmas.{was_clean}
 use Rattle.sql_register.proofs.making.make.Goals as goal
 
@@ -129,3 +130,74 @@ returns-in_err-commit-clause-blame g c clean is_open blank outside =
     let later = later_then s0 s2 s3 (later_then s0 s1 s2 c.begin_making.ensures.later c.make_tables.ensures.later) c.set_version.ensures.write.later in
     caused_on c.from_residual-in_err-commit.result c.in_err-commit.field-0.0 s0 s3 s4 c.from_residual-in_err-commit.ensures.1 later c.commit.ensures.later
     (c.in_err-commit.ensures.blame clean stays.is_open stays.schema (stays.mode ∙ made.mode ∙ begun.mode))
+
+pub returns-in_err-begin_making-clause-made : goal.returns-in_err-begin_making-clause-made
+returns-in_err-begin_making-clause-made g c clean is_open blank = not_done c.from_residual.result c.in_err-begin_making.field-0.0 c.from_residual.ensures.1 _
+
+pub returns-in_err-begin_making-clause-outside : goal.returns-in_err-begin_making-clause-outside
+returns-in_err-begin_making-clause-outside g c clean blank = not_done c.from_residual.result c.in_err-begin_making.field-0.0 c.from_residual.ensures.1 _
+
+pub returns-in_err-make_tables-clause-made : goal.returns-in_err-make_tables-clause-made
+returns-in_err-make_tables-clause-made g c clean is_open blank = not_done c.from_residual-in_err-make_tables.result c.in_err-make_tables.field-0.0 c.from_residual-in_err-make_tables.ensures.1 _
+
+pub returns-in_err-make_tables-clause-outside : goal.returns-in_err-make_tables-clause-outside
+returns-in_err-make_tables-clause-outside g c clean blank = not_done c.from_residual-in_err-make_tables.result c.in_err-make_tables.field-0.0 c.from_residual-in_err-make_tables.ensures.1 _
+
+pub returns-in_err-set_version-clause-made : goal.returns-in_err-set_version-clause-made
+returns-in_err-set_version-clause-made g c clean is_open blank = not_done c.from_residual-in_err-set_version.result c.in_err-set_version.field-0.0 c.from_residual-in_err-set_version.ensures.1 _
+
+pub returns-in_err-set_version-clause-outside : goal.returns-in_err-set_version-clause-outside
+returns-in_err-set_version-clause-outside g c clean blank = not_done c.from_residual-in_err-set_version.result c.in_err-set_version.field-0.0 c.from_residual-in_err-set_version.ensures.1 _
+
+pub returns-in_err-commit-clause-made : goal.returns-in_err-commit-clause-made
+returns-in_err-commit-clause-made g c clean is_open blank = not_done c.from_residual-in_err-commit.result c.in_err-commit.field-0.0 c.from_residual-in_err-commit.ensures.1 _
+
+pub returns-in_err-commit-clause-outside : goal.returns-in_err-commit-clause-outside
+returns-in_err-commit-clause-outside g c clean blank = not_done c.from_residual-in_err-commit.result c.in_err-commit.field-0.0 c.from_residual-in_err-commit.ensures.1 _
+
+pub returns-in_err-begin_making-clause-later : goal.returns-in_err-begin_making-clause-later
+returns-in_err-begin_making-clause-later g c = c.begin_making.ensures.later
+
+pub returns-in_err-make_tables-clause-later : goal.returns-in_err-make_tables-clause-later
+returns-in_err-make_tables-clause-later g c =
+    let s0 = state g.S.Store c.args.conn.now in
+    let s1 = state g.S.Store c.begin_making.new.conn in
+    let s2 = state g.S.Store c.make_tables.new.conn in
+    later_then s0 s1 s2 c.begin_making.ensures.later c.make_tables.ensures.later
+
+pub returns-in_err-set_version-clause-later : goal.returns-in_err-set_version-clause-later
+returns-in_err-set_version-clause-later g c =
+    let s0 = state g.S.Store c.args.conn.now in
+    let s1 = state g.S.Store c.begin_making.new.conn in
+    let s2 = state g.S.Store c.make_tables.new.conn in
+    let s3 = state g.S.Store c.set_version.new.conn in
+    later_then s0 s2 s3 (later_then s0 s1 s2 c.begin_making.ensures.later c.make_tables.ensures.later) c.set_version.ensures.write.later
+
+pub returns-in_err-commit-clause-later : goal.returns-in_err-commit-clause-later
+returns-in_err-commit-clause-later g c =
+    let s0 = state g.S.Store c.args.conn.now in
+    let s1 = state g.S.Store c.begin_making.new.conn in
+    let s2 = state g.S.Store c.make_tables.new.conn in
+    let s3 = state g.S.Store c.set_version.new.conn in
+    let s4 = state g.S.Store c.commit.new.conn in
+    later_then s0 s3 s4 (later_then s0 s2 s3 (later_then s0 s1 s2 c.begin_making.ensures.later c.make_tables.ensures.later) c.set_version.ensures.write.later) c.commit.ensures.later
+
+pub returns-clause-later : goal.returns-clause-later
+returns-clause-later g c =
+    let s0 = state g.S.Store c.args.conn.now in
+    let s1 = state g.S.Store c.begin_making.new.conn in
+    let s2 = state g.S.Store c.make_tables.new.conn in
+    let s3 = state g.S.Store c.set_version.new.conn in
+    let s4 = state g.S.Store c.commit.new.conn in
+    later_then s0 s3 s4 (later_then s0 s2 s3 (later_then s0 s1 s2 c.begin_making.ensures.later c.make_tables.ensures.later) c.set_version.ensures.write.later) c.commit.ensures.later
+
+pub returns-in_err-begin_making-clause-kept : goal.returns-in_err-begin_making-clause-kept
+returns-in_err-begin_making-clause-kept g c clean is_open blank =
+    let s0 = state g.S.Store c.args.conn.now in
+    kept_then c.from_residual.result s0 s0 (state g.S.Store c.begin_making.new.conn) refl (c.in_err-begin_making.ensures.kept clean)
+
+pub returns-clause-kept : goal.returns-clause-kept
+returns-clause-kept g c clean is_open blank = tt
+
+pub returns-clause-blame : goal.returns-clause-blame
+returns-clause-blame g c clean is_open blank outside = tt

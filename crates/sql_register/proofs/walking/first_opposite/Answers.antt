@@ -56,8 +56,9 @@ returns-then-unmatched-clause-look g c =
 
 pub loop-number-smaller : goal.loop-number-smaller
 loop-number-smaller g c =
-    let small = subst (λ o. IfSome o (λ found. found.0 < 1_000_000_000)) c.in-Some.is c.in_ok-number.ensures.small in
-    let rising = subst (λ o. IfSome o (λ found. c.loop-number.after < found.0)) c.in-Some.is c.in_ok-number.ensures.rising in
+    let within = subst (λ o. IfSome o (λ found. (c.loop-number.after < found.0) × (found.0 < 1_000_000_000))) c.in-Some.is c.in_ok-number.ensures.within in
+    let rising = within.0 in
+    let small = within.1 in
     omega (arith, small, rising)
 
 pub loop-number-preserved : goal.loop-number-preserved
@@ -69,7 +70,7 @@ loop-number-preserved g c =
     let looked = c.in_ok-number.ensures.look in
     record {
       look = look_more _ s0 s1 s2 c.loop-number.invariant.look looked;
-      small = subst (λ o. IfSome o (λ found. found.0 < 1_000_000_000)) c.in-Some.is c.in_ok-number.ensures.small;
+      small = (subst (λ o. IfSome o (λ found. (c.loop-number.after < found.0) × (found.0 < 1_000_000_000))) c.in-Some.is c.in_ok-number.ensures.within).1;
       passed = λ clean is_open has desk.
           let clean1 : HasCleanDisk s1 = was_clean _ _ looked.later clean in
           let next = shown_then tt s0 s1 s2 c.loop-number.invariant.look (λ (d : Database). IsCandidateAbove (content_in d) i c.loop-number.after c.in_ok-number.field-0) looked.later c.in_ok-number.ensures.value clean is_open has desk in

@@ -1,31 +1,50 @@
-use Rattle.std.proofs.Common.{ap, ◌∙◌, subst, sym, IsTrue}
+use Rattle.std.proofs.Common.{OnOk, ◌≡◌, ap, ◌∙◌, subst, sym, IsTrue}
 use Rattle.sqlite.specs.Held.{state}
 use Rattle.sqlite.specs.State.{HasCleanDisk}
 use Rattle.desk_register.specs.Told.{waiting}
 use Rattle.desk_register.specs.Changes.{CanCancelPair}
 use Rattle.desk_register.specs.View.{IsChange}
-use Rattle.sql_register.proofs.ChangeLemmas.{write_said}
+use Rattle.sql_register.proofs.CauseLemmas.{above, below}
+use Rattle.sql_register.proofs.ChangeLemmas.{told_content, write_said}
 use Rattle.sql_register.specs.Content.{content_in}
 use Rattle.sql_register.specs.Kept.{Kept, shown}
 use Rattle.sql_register.proofs.KeptLemmas.{holds_changed}
+use Rattle.sql_register.proofs.PairCalls.{wait_call}
+use Rattle.sql_register.proofs.PairCauses.{cancel_stands}
 use Rattle.sql_register.proofs.ReadLemmas.{was_clean}
 use Rattle.sql_register.proofs.calls.SqlRegisterToldRegister.wait_for.Goals as goal
 
 pub invariant_of-self : goal.invariant_of-self
 invariant_of-self g c =
-    holds_changed (state g.S.Store c.self.inside.conn) (state g.S.Store c.wait_for.new.conn) c.self.inside.stage c.told.new.stage c.self.inside.limit
-    c.wait_for.result c.told.result (waiting c.args.earlier c.args.later c.args.lack (content_in (state g.S.Store c.self.inside.conn).now)) (ap (λ k. k.stage) c.self.view_is ∙ c.requires.stage) c.self.invariant c.wait_for.ensures.write c.told.ensures
-    (λ clean is_open has desk. c.wait_for.ensures.changed clean is_open has desk
-    (subst (λ (k : Kept _). HasCleanDisk (state g.S.Store k.connection) → IsTrue (state g.S.Store k.connection).is_open → CanCancelPair (content_in (state g.S.Store k.connection).now) c.args.earlier c.args.later) (sym c.self.view_is) c.requires.fits
-    (was_clean _ _ c.wait_for.ensures.write.later clean) is_open))
+    holds_changed (state g.S.Store c.self.inside.conn) (state g.S.Store c.stand_both.new.conn) c.self.inside.stage c.told.new.stage c.self.inside.limit
+    c.stand_both.result c.told.result (waiting c.args.earlier c.args.later c.args.lack (content_in (state g.S.Store c.self.inside.conn).now)) (ap (λ k. k.stage) c.self.view_is ∙ c.requires.stage) c.self.invariant c.stand_both.ensures.write c.told.ensures
+    (λ clean is_open has desk.
+    let old = state g.S.Store c.self.inside.conn in
+    let can0 = (subst (λ (k : Kept _). HasCleanDisk (state g.S.Store k.connection) → IsTrue (state g.S.Store k.connection).is_open → CanCancelPair (content_in (state g.S.Store k.connection).now) c.args.earlier c.args.later) (sym c.self.view_is) c.requires.fits
+    (was_clean _ _ c.stand_both.ensures.write.later clean) is_open) in
+    wait_call old.now old (state g.S.Store c.stand_both.new.conn) c.args.earlier c.args.later desk can0 c.args.lack c.stand_both.result (c.stand_both.ensures.write.ok clean is_open has) (rw (sym c.state_then.ensures.same) (c.stand_both.ensures.changed clean is_open has desk.standings)))
+
+pub returns-clause-waits : goal.returns-clause-waits
+returns-clause-waits g c =
+    subst (λ (k : Kept _). HasCleanDisk (state g.S.Store c.stand_both.new.conn) → IsTrue (state g.S.Store k.connection).is_open
+    → OnOk c.told.result (content_in (state g.S.Store c.stand_both.new.conn).now ≡ waiting c.args.earlier c.args.later c.args.lack (content_in (state g.S.Store k.connection).now))) c.self.view_is
+    (told_content (state g.S.Store c.self.inside.conn) (state g.S.Store c.stand_both.new.conn) c.self.inside.stage c.told.new.stage c.self.inside.limit
+    c.stand_both.result c.told.result (waiting c.args.earlier c.args.later c.args.lack (content_in (state g.S.Store c.self.inside.conn).now)) (ap (λ k. k.stage) c.self.view_is ∙ c.requires.stage) c.self.invariant.0 c.stand_both.ensures.write c.told.ensures
+    (λ clean is_open has desk.
+    let old = state g.S.Store c.self.inside.conn in
+    let can0 = (subst (λ (k : Kept _). HasCleanDisk (state g.S.Store k.connection) → IsTrue (state g.S.Store k.connection).is_open → CanCancelPair (content_in (state g.S.Store k.connection).now) c.args.earlier c.args.later) (sym c.self.view_is) c.requires.fits
+    (was_clean _ _ c.stand_both.ensures.write.later clean) is_open) in
+    wait_call old.now old (state g.S.Store c.stand_both.new.conn) c.args.earlier c.args.later desk can0 c.args.lack c.stand_both.result (c.stand_both.ensures.write.ok clean is_open has) (rw (sym c.state_then.ensures.same) (c.stand_both.ensures.changed clean is_open has desk.standings))))
 
 pub returns-clause-change : goal.returns-clause-change
 returns-clause-change g c =
     let old = state g.S.Store c.self.inside.conn in
-    let new = state g.S.Store c.wait_for.new.conn in
+    let new = state g.S.Store c.stand_both.new.conn in
     let begun = ap (λ k. k.stage) c.self.view_is ∙ c.requires.stage in
     let can = subst (λ (k : Kept _). HasCleanDisk (state g.S.Store k.connection) → IsTrue (state g.S.Store k.connection).is_open → CanCancelPair (content_in (state g.S.Store k.connection).now) c.args.earlier c.args.later) (sym c.self.view_is) c.requires.fits in
-    let was = was_clean old new c.wait_for.ensures.write.later in
+    let was = was_clean old new c.stand_both.ensures.write.later in
     subst (λ (k : Kept _). IsChange c.told.result (shown (state g.S.Store k.connection) k.stage k.room) (shown new c.told.new.stage c.self.inside.limit)) c.self.view_is
-    (write_said old new c.self.inside.stage c.told.new.stage c.self.inside.limit c.wait_for.result c.told.result begun c.self.invariant.0 c.self.invariant.1.unlimited c.wait_for.ensures.write
-    (λ clean is_open has desk. c.wait_for.ensures.blame clean is_open has desk (can (was clean) is_open)) c.told.ensures)
+    (write_said old new c.self.inside.stage c.told.new.stage c.self.inside.limit c.stand_both.result c.told.result begun c.self.invariant.0 c.self.invariant.1.unlimited c.stand_both.ensures.write
+    (λ clean is_open has desk.
+    let can0 = can (was clean) is_open in
+    c.stand_both.ensures.blame clean is_open has (cancel_stands old.now desk c.args.earlier c.args.later can0) (above old.now desk c.args.earlier can0.earlier can0.pair.is_earlier) can0.two (below old.now desk c.args.later can0.later can0.pair.is_later)) c.told.ensures)
