@@ -1,0 +1,86 @@
+//! The entries of a database of an earlier version.
+ghost use Rattle.std.specs.Prelude.{◌≡◌, ◌≢◌, ◌↔◌, false, Err, IfErr, IfOk, IsSomeAnd, IsTrue, None};
+ghost use Rattle.sqlite.specs.Held.{state};
+ghost use Rattle.sqlite.specs.State.{HasCleanDisk};
+ghost use Rattle.desk_rules.specs.Content.{Content};
+ghost use Rattle.sql_tables.specs.Calls.{tables};
+ghost use Rattle.sql_tables.specs.Schema.{first_schema};
+ghost use Rattle.desk_file.specs.Faults.{IsBlamed, IsRefusal};
+ghost use Rattle.desk_file.specs.Opened.{StandsOpen};
+ghost use Rattle.desk_file.specs.Spared.{Spares};
+ghost use Rattle.desk_old.specs.Old.{AreHistory, HoldsEntries, HoldsOld, IsNeither, SaysNeither};
+
+use crate::held::entries_held;
+use desk_file::{
+    Audited, Difference, OpenFault, Progress, audit_version, fault_of, fault_of_audit,
+    has_desk_tables, version_said,
+};
+use desk_rules::{Entry, MOST_ENTRIES};
+use memory_register::ListRegister;
+use sql_tables::versions::Version;
+use sqlite::{Alter, Connection};
+use std::alloc::Global;
+
+/// The version that a database is audited as: the first, where it has just these tables.
+fn version_of<S: Alter>(conn: &Connection<S>) -> Version
+    ensures earlier { result ≢ Version.Third }
+    ensures first { (result ≡ Version.First) ↔ ((state S.Store conn.now).now.schema ≡ first_schema) }
+{
+    if has_desk_tables(conn, Version::First) {
+        Version::First
+    } else {
+        Version::Second
+    }
+}
+
+/// Why a database is refused that says this of its version.
+fn refused_for(said: Option<i64>) -> OpenFault
+    ensures other { result ≡ OpenFault.OtherVersion → IsSomeAnd said IsNeither }
+    ensures refuses { result ≢ OpenFault.Storage }
+{
+    match said {
+        Some(1 | 2) | None => OpenFault::NotOurFile(Difference::OtherTables),
+        Some(_) => OpenFault::OtherVersion,
+    }
+}
+
+/// Why a database that is none of these versions is refused.
+fn refusal<S: Alter>(conn: &mut Connection<S>) -> OpenFault
+    ensures spares { Spares (state S.Store conn.old) (state S.Store conn.new) }
+    ensures blame { HasCleanDisk (state S.Store conn.new) → IsTrue (state S.Store conn.old).is_open → (state S.Store conn.old).in_transaction ≡ false → (state S.Store conn.old).step_limit ≡ None → IsBlamed (state S.Store conn.old) (state S.Store conn.new) result }
+    ensures other { HasCleanDisk (state S.Store conn.new) → result ≡ OpenFault.OtherVersion → SaysNeither S.Store (tables S.Store conn.old) }
+{
+    match version_said(conn) {
+        Ok(said) => refused_for(said),
+        Err(error) => fault_of(&error),
+    }
+}
+
+/// The entries that a database holds which was just opened, so that no limit is set on the steps of a query.
+pub fn read_old<S: Alter, P: Progress>(
+    alloc: Global,
+    conn: &mut Connection<S>,
+    progress: &mut P,
+) -> Result<Vec<Entry>, OpenFault>
+    requires unlimited { (state S.Store conn.old).step_limit ≡ None }
+    requires open { HasCleanDisk (state S.Store conn.old) → StandsOpen (state S.Store conn.old) }
+    ensures which { HasCleanDisk (state S.Store conn.new) → IfOk result (λ entries. HoldsEntries (tables S.Store conn.old) entries.items) }
+    ensures accepted { IfOk result (λ entries. AreHistory entries.items) }
+    ensures spares { Spares (state S.Store conn.old) (state S.Store conn.new) }
+    ensures refused { HasCleanDisk (state S.Store conn.new) → IfErr result (λ fault. IsRefusal fault → (content : Content) → ¬ HoldsOld (tables S.Store conn.old) content) }
+    ensures other { HasCleanDisk (state S.Store conn.new) → result ≡ Err OpenFault.OtherVersion → SaysNeither S.Store (tables S.Store conn.old) }
+    ensures blame { HasCleanDisk (state S.Store conn.new) → IfErr result (IsBlamed (state S.Store conn.old) (state S.Store conn.new)) }
+{
+    let mut memory = ListRegister::new(alloc, MOST_ENTRIES);
+    let version = version_of(conn);
+    match audit_version(alloc, conn, version, &mut memory, progress) {
+        Ok(Audited::Whole) => match entries_held(alloc, &mut memory) {
+            Ok(entries) => Ok(entries),
+            Err(_) => Err(OpenFault::Memory),
+        },
+        Ok(Audited::OtherTables | Audited::OtherVersion) => Err(refusal(conn)),
+        Ok(Audited::OtherEntry(number)) => { Err(OpenFault::NotOurFile(Difference::Entry(number))) }
+        Ok(Audited::Differs(table)) => Err(OpenFault::NotOurFile(Difference::Table(table))),
+        Err(fault) => Err(fault_of_audit(&fault)),
+    }
+}
