@@ -12,6 +12,8 @@ mod made;
 #[cfg(test)]
 mod msg;
 #[cfg(test)]
+mod reasons;
+#[cfg(test)]
 mod rules;
 #[cfg(test)]
 mod text;

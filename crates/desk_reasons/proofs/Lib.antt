@@ -1,0 +1,5 @@
+pub mod CharacterLemmas
+pub mod ValueLemmas
+pub mod RowLemmas
+pub mod BlockLemmas
+pub mod WritingLemmas

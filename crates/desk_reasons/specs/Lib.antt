@@ -1,0 +1,12 @@
+pub mod Characters
+pub mod Numbers
+pub mod Amounts
+pub mod Quantities
+pub mod Codes
+pub mod Rows
+pub mod Values
+pub mod FieldFaults
+pub mod BlockFaults
+pub mod Told
+pub mod Words
+pub mod Tails
