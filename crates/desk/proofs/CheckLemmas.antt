@@ -1,13 +1,15 @@
 -- A script that is played to memory, and what is told of it.
-use Rattle.std.proofs.Common.{◌≡◌, ◌∙◌, ◌<◌, ℕ, Bool, true, List, [], ◌++◌, length, map, Option, Some, None, ap, sym, subst}
-use Rattle.std.specs.Prelude.{Result, Ok, Err, IfOk, IfSome}
+use Rattle.std.proofs.Common.{◌≡◌, ◌∙◌, ◌<◌, ℕ, Bool, true, List, [], ◌∷◌, ◌++◌, length, map, Option, Some, None, ap, sym, subst, refl}
+use Rattle.std.specs.declared.alloc.Global.{Global}
+use Rattle.std.specs.Prelude.{Vec, Result, Ok, Err, IfOk, IfSome}
 use Rattle.std.specs.Result.{result_ok}
 use Rattle.std.specs.Io.KnownBytes.{Appends}
 use Rattle.desk_streams.specs.declared.fault.InputFault.{InputFault}
 use Rattle.desk_streams.specs.declared.fault.InputFault.TheVariants.{Memory, ReadFailed, TooLong}
 use Rattle.desk_book.specs.declared.limits.TheConstants.{LONGEST_SCRIPT}
 use Rattle.desk.specs.CheckAnswer.{AreFound, IsCheckAnswer, IsFindingsAnswer, status_of_findings, told_findings, told_no_script, told_script}
-use Rattle.desk.specs.Finding.{Found, findings_in, report_text}
+use Rattle.desk.specs.Finding.{Refused, findings_in, found_of, refused_by, report_text}
+use Rattle.desk.specs.declared.findings.finding.Explained.{Explained}
 use Rattle.desk.specs.Input.{Came, MayGiveNone, failure_of}
 use Rattle.desk.specs.PlayAnswer.{IsPlayAnswer, IsPlayed, told_answers}
 use Rattle.desk.specs.PlayAnswer as plays
@@ -33,8 +35,13 @@ played script input start answers U reads status same none done is =
     let answers_are : p.1 ≡ answers = sym (wrote ∙ ap (λ s. s ++ p.1) none) in
     subst P (sym (same ∙ came)) (subst Q answers_are p.3)
 
-pub found : (script answers : List ℕ) (findings : List Found) → IsPlayed script answers → findings ≡ findings_in script (told_in answers) → AreFound script findings
-found script answers findings play are = record { answers = answers; played = play; found = are }
+pub found : (script answers : List ℕ) (requests : ℕ) (findings : List Refused) → IsPlayed script answers → requests ≡ length (told_in answers) → map (λ r. r.found) findings ≡ findings_in script (told_in answers) → AreFound script requests findings
+found script answers requests findings play count are = record { answers = answers; played = play; count = count; found = are }
+
+-- the findings of what is told of them
+found_in_each : (xs : List Explained) → map (λ r. r.found) (map refused_by xs) ≡ map found_of xs
+found_in_each [] = refl
+found_in_each (x ∷ xs) = ap (λ rest. found_of x ∷ rest) (found_in_each xs)
 
 -- what was read is what the reader had, and so it was told of that
 pub script_told : {E : Type 0} (r : Result Status E) (given : Option (List ℕ)) (U : Type 0) (reads : Bool) (script : List ℕ) (P : List ℕ → Type 0) → IfSome given (λ input. script ≡ input) → IfOk r (λ status. IsFindingsAnswer script status P)
@@ -62,20 +69,20 @@ known_ok : {X E : Type 0} (x : X) (r : Result X E) (P : X → Type 0) → Some x
 known_ok x (Ok y) P same is = let e : x ≡ y = cc in subst P (sym e) is
 known_ok x (Err e) P same is = cc
 
-when_ok : {X E : Type 0} (o : Option X) (r : Result X E) (P Q : X → Type 0) → o ≡ result_ok r → ((x : X) → P x → Q x) → IfOk r P → IfSome o Q
-when_ok (Some x) r P Q same then is = then x (known_ok x r P same is)
-when_ok None r P Q same then is = tt
+-- as many requests as answers that were told
+pub counted : {Y E : Type 0} (list : Y → List Told) (answers : List ℕ) (told : Y) (read : Result Y E) (n : ℕ) → n ≡ length (list told) → Some told ≡ result_ok read → IfOk read (λ y. list y ≡ told_in answers) → n ≡ length (told_in answers)
+counted list answers told read n count taken is = count ∙ ap length (known_ok told read (λ y. list y ≡ told_in answers) taken is)
 
 -- what is found by what was told is what is found by the answers
-pub found_all : {X Y E F : Type 0} (items : X → List Found) (list : Y → List Told) (script answers : List ℕ) (others : List Told) (told : Y) (read : Result Y E) (o : Option X) (r : Result X F) → others ≡ list told
-    → Some told ≡ result_ok read → IfOk read (λ n. list n ≡ told_in answers) → o ≡ result_ok r → IfOk r (λ x. items x ≡ findings_in script others) → IfSome o (λ x. items x ≡ findings_in script (told_in answers))
-found_all items list script answers others told read o r same taken is given are =
+pub found_all : {Y E F : Type 0} (list : Y → List Told) (findings : List Explained) (script answers : List ℕ) (others : List Told) (told : Y) (read : Result Y E) (r : Result (Vec Explained Global) F) (v : Vec Explained Global) → v.items ≡ findings → others ≡ list told
+    → Some told ≡ result_ok read → IfOk read (λ n. list n ≡ told_in answers) → Some v ≡ result_ok r → IfOk r (λ x. map found_of x.items ≡ findings_in script others) → map found_of findings ≡ findings_in script (told_in answers)
+found_all list findings script answers others told read r v same_items same taken is given are =
     let told_are : others ≡ told_in answers = same ∙ known_ok told read (λ n. list n ≡ told_in answers) taken is in
-    when_ok o r (λ x. items x ≡ findings_in script others) (λ x. items x ≡ findings_in script (told_in answers)) given (λ x all. all ∙ ap (findings_in script) told_are) are
+    ap (map found_of) (sym same_items) ∙ known_ok v r (λ x. map found_of x.items ≡ findings_in script others) given are ∙ ap (findings_in script) told_are
 
 -- what was found was told
-pub told_of : {F : Type 0} (value : F → Found) (script : List ℕ) (items slice again : List F) (status : Status) (before after : Option (List ℕ)) → slice ≡ items → again ≡ items → AreFound script (map value items)
-    → status ≡ status_of_findings (map value again) → Appends before after (report_text (map value slice)) → IsFindingsAnswer script status (Appends before after)
-told_of value script items slice again status before after same same_again are is wrote =
-    let P : List Found → Type 0 = λ fs. Appends before after (report_text fs) in
-    told_findings (map value items) are (is ∙ ap (λ xs. status_of_findings (map value xs)) same_again) (subst P (ap (map value) same) wrote)
+pub told_of : (script answers : List ℕ) (requests : ℕ) (items slice again : List Explained) (status : Status) (before after : Option (List ℕ)) → slice ≡ items → again ≡ items → IsPlayed script answers → requests ≡ length (told_in answers)
+    → map found_of items ≡ findings_in script (told_in answers) → status ≡ status_of_findings (map refused_by again) → Appends before after (report_text requests (map refused_by slice)) → IsFindingsAnswer script status (Appends before after)
+told_of script answers requests items slice again status before after same same_again play count are is wrote =
+    let P : List Explained → Type 0 = λ xs. Appends before after (report_text requests (map refused_by xs)) in
+    told_findings requests (map refused_by items) (found script answers requests (map refused_by items) play count (found_in_each items ∙ are)) (is ∙ ap (λ xs. status_of_findings (map refused_by xs)) same_again) (subst P same wrote)

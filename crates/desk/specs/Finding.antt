@@ -1,12 +1,14 @@
 -- What is found in a script by what its answers tell.
-use Rattle.std.specs.Prelude.{ℕ, ◌+◌, ◌==◌, ◌&&◌, Bool, false, not, if◌then◌else◌, List, [], ◌∷◌, ◌++◌, map, take, drop, count_by, Option, Some, None, codes, decimal}
+use Rattle.std.specs.Prelude.{ℕ, ◌+◌, ◌==◌, ◌&&◌, Bool, false, not, if◌then◌else◌, List, [], ◌∷◌, ◌++◌, length, map, take, drop, count_by, Option, Some, None, codes, decimal}
 use Rattle.std.specs.List.{flat_map}
 use Rattle.std.specs.Str.{byte}
 use Rattle.desk_book.specs.Lines.{has_body, is_skipped, is_stop, said_by, script_lines}
 use Rattle.desk_text.specs.BlockGrammar.{is_printable}
 use Rattle.desk_words.specs.Causes.{CauseValue, catalogue, cause_with, heading_of, value_of_cause}
+use Rattle.desk.specs.declared.findings.finding.Explained.{Explained}
 use Rattle.desk.specs.declared.findings.finding.Finding.{Finding}
 use Rattle.desk.specs.declared.findings.finding.TheConstants.{TOLD}
+use Rattle.desk.specs.declared.findings.reason.Reason.{Reason}
 use Rattle.desk.specs.Told.{Told}
 
 -- the number of a line, counted from 1, what it says, the cause that its answer tells, and what it tells behind the number
@@ -61,24 +63,72 @@ shown c = if is_printable c then c else byte "?"
 abbrev pub front_text : List ℕ → List ℕ
 front_text text = map shown (take TOLD text)
 
+-- what is told of a finding besides: at which line of the script the fault stands, the reference that the request gives itself,
+-- and why it cannot be read, in words; nothing where there are none
+pub record Why : Type 0 where
+  pub line : ℕ
+  pub reference : List ℕ
+  pub words : List ℕ
+
+abbrev pub why_by : Reason → Why
+why_by reason = record { line = reason.line; reference = reason.reference.items; words = reason.words.items }
+
+-- a finding, and what is told of it besides
+pub record Refused : Type 0 where
+  pub found : Found
+  pub why : Why
+
+abbrev pub found_of : Explained → Found
+found_of explained = found_by explained.finding
+
+abbrev pub refused_with : Found → Why → Refused
+refused_with found why = record { found = found; why = why }
+
+abbrev pub refused_by : Explained → Refused
+refused_by explained = refused_with (found_by explained.finding) (why_by explained.reason)
+
 -- the line that tells of one
 abbrev pub place_text : ℕ → List ℕ → List ℕ
 place_text line said = (codes "line " ++ decimal line ++ codes ": ") ++ front_text said
 
-abbrev pub told_text : CauseValue → List ℕ → List ℕ
-told_text cause rest = codes ": " ++ heading_of cause.number ++ front_text rest ++ codes ": " ++ cause.meaning ++ codes "\n"
+-- these words, or the others where there are none
+abbrev pub words_told : List ℕ → List ℕ → List ℕ
+words_told [] others = others
+words_told (c ∷ words) others = c ∷ words
 
-abbrev pub finding_text : Found → List ℕ
-finding_text found = place_text found.line found.said ++ told_text found.cause found.rest
+abbrev pub told_text : CauseValue → List ℕ → List ℕ → List ℕ
+told_text cause rest words = codes ": " ++ heading_of cause.number ++ front_text rest ++ codes ": " ++ words_told words cause.meaning
+
+abbrev pub reference_text : List ℕ → List ℕ
+reference_text reference = if length reference == 0 then [] else codes ", reference " ++ front_text reference
+
+-- and its end: at which other line the fault stands, with the reference
+abbrev pub within_text : ℕ → Why → List ℕ
+within_text line why = if why.line == line then codes "\n" else (codes " (line " ++ decimal why.line) ++ reference_text why.reference ++ codes ")\n"
+
+abbrev pub refused_text : Refused → List ℕ
+refused_text refused = place_text refused.found.line refused.found.said ++ told_text refused.found.cause refused.found.rest refused.why.words ++ within_text refused.found.line refused.why
 
 -- how many tell the cause of this number
-abbrev pub count_of : ℕ → List Found → ℕ
-count_of number findings = count_by (λ found. found.cause.number == number) findings
+abbrev pub count_of : ℕ → List Refused → ℕ
+count_of number findings = count_by (λ refused. refused.found.cause.number == number) findings
 
 -- the line that tells how many
-abbrev pub count_text : List Found → ℕ → List ℕ
+abbrev pub count_text : List Refused → ℕ → List ℕ
 count_text findings number = if count_of number findings == 0 then [] else heading_of number ++ codes ": " ++ decimal (count_of number findings) ++ codes "\n"
 
 -- each of them, and then how many tell each cause
-abbrev pub report_text : List Found → List ℕ
-report_text findings = flat_map finding_text findings ++ flat_map (λ cause. count_text findings cause.number) catalogue
+abbrev pub findings_text : List Refused → List ℕ
+findings_text findings = flat_map refused_text findings ++ flat_map (λ cause. count_text findings cause.number) catalogue
+
+-- the line that tells how many requests there were, and how many are found
+abbrev pub sums_text : ℕ → ℕ → List ℕ
+sums_text requests refused = decimal requests ++ codes " requests, " ++ decimal refused ++ codes " refused\n"
+
+-- what is told of all
+abbrev pub report_text : ℕ → List Refused → List ℕ
+report_text requests findings = findings_text findings ++ sums_text requests (length findings)
+
+-- the line of one that the code has
+unfoldable pub line_of : Explained → List ℕ
+line_of explained = refused_text (refused_by explained)

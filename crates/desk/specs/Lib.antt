@@ -11,6 +11,7 @@ pub mod OverFile
 pub mod OverviewAnswer
 pub mod PlayAnswer
 pub mod ReadAnswer
+pub mod Reason
 pub mod ReportAnswer
 pub mod ServeAnswer
 pub mod Status

@@ -1,6 +1,7 @@
-//! What is found in a script by its answers: its lines, what the answers tell, and which line has which.
+//! What is found in a script by its answers: its lines, what the answers tell, which line has which, and why.
 mod finding;
+mod reason;
 mod told;
 
-pub use finding::{Finding, findings_in, tell_findings};
+pub use finding::{Explained, findings_in, tell_report};
 pub use told::told_in;

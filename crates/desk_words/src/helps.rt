@@ -72,12 +72,14 @@ Example:
 /// Of `desk check`
 pub const CHECK: &str = "\
 Of each answer whose status is not 200 it prints a line: the line of the script where the request begins,
-the first 40 bytes of that line, the number that is told with what stands behind it, and what the number
-means. What is not printable is shown as `?`. At its end it prints how many tell each number. Its status is
-1 where there is any, and 0 where there is none.
+the first 40 bytes of that line, the number that is told with what stands behind it, and why the request
+cannot be read, or what the number means; behind that, where they are known, the line of the script at which
+the fault stands and the reference that the request gives itself. What is not printable is shown as `?`. At
+its end it prints how many tell each number, and how many requests there were. Its status is 1 where any was
+refused, and 0 where none was.
 
 Example:
-  ./desk check < examples/day/day.script | tail -n 4";
+  ./desk check < examples/day/day.script | tail -n 5";
 
 /// Of `desk explain`
 pub const EXPLAIN: &str = "\

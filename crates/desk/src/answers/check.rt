@@ -2,12 +2,12 @@
 ghost use Rattle.std.specs.Prelude.{◌≡◌, ◌≤◌, length, true, map, IfOk, IfSome, OnErr};
 ghost use Rattle.std.specs.Io.KnownBytes.{Appends};
 ghost use Rattle.desk.specs.CheckAnswer.{IsCheckAnswer, IsFindingsAnswer, status_of_findings};
-ghost use Rattle.desk.specs.Finding.{findings_in as all_found, found_by};
+ghost use Rattle.desk.specs.Finding.{findings_in as all_found, found_of, refused_by};
 ghost use Rattle.desk.specs.PlayAnswer.{IsPlayed};
 ghost use Rattle.desk.specs.Told.{told_in as all_told};
 
 use super::play::answer_play;
-use crate::findings::{Finding, findings_in, tell_findings, told_in};
+use crate::findings::{Explained, findings_in, tell_report, told_in};
 use crate::status::{Failure, Status, tell_failure};
 use desk_book::LONGEST_SCRIPT;
 use desk_streams::{Sink, Source, read_whole};
@@ -15,8 +15,8 @@ use std::alloc::Global;
 use std::io;
 
 /// Plays a script from the reader on a new desk in memory, and tells of each answer but those of status 200 in which line
-/// its request begins, what that line says and why it was refused; and then how many were refused so. It is refused where
-/// any was. `fault 60` tells that memory is wanting for the script or its answers, and `fault io` that the reader failed
+/// its request begins, what that line says and why it was refused, in which line the fault stands, and the reference; then how
+/// many were refused so, and how many requests there were. It is refused where any was. `fault 60` tells that memory is wanting for the script or its answers, and `fault io` that the reader failed
 /// or the script is too long.
 pub fn answer_check<R: Source, W: Sink>(
     alloc: Global,
@@ -56,8 +56,8 @@ fn check_answers<W: Sink>(
     ensures failed { OnErr result (W.may_fail ≡ true) }
 {
     match found_in(alloc, script, answers) {
-        Some(findings) => {
-            tell_findings(findings.as_slice(), writer)?;
+        Some((requests, findings)) => {
+            tell_report(requests, findings.as_slice(), writer)?;
             Ok(status_of(findings.as_slice()))
         }
         None => tell_failure(Failure::Memory, writer),
@@ -65,8 +65,8 @@ fn check_answers<W: Sink>(
 }
 
 /// Refused where anything was found.
-fn status_of(findings: &[Finding<'_>]) -> Status
-    ensures { result ≡ status_of_findings (map found_by findings.now) }
+fn status_of(findings: &[Explained<'_>]) -> Status
+    ensures { result ≡ status_of_findings (map refused_by findings.now) }
 {
     match findings {
         [] => Status::Done,
@@ -74,12 +74,18 @@ fn status_of(findings: &[Finding<'_>]) -> Status
     }
 }
 
-/// What is found in a script by its answers; None where memory is wanting.
-fn found_in<'a>(alloc: Global, script: &'a [u8], answers: &'a [u8]) -> Option<Vec<Finding<'a>>>
-    ensures { IfSome result (λ findings. map found_by findings.items ≡ all_found script.entry.now (all_told answers.entry.now)) }
+/// How many requests a script has, by its answers, and what is found in it; None where memory is wanting.
+fn found_in<'a>(
+    alloc: Global,
+    script: &'a [u8],
+    answers: &'a [u8],
+) -> Option<(usize, Vec<Explained<'a>>)>
+    ensures requests { IfSome result (λ found. found.0 ≡ length (all_told answers.entry.now)) }
+    ensures found { IfSome result (λ found. map found_of found.1.items ≡ all_found script.entry.now (all_told answers.entry.now)) }
 {
     let told = told_in(alloc, answers).ok()?;
-    findings_in(alloc, script, told.as_slice()).ok()
+    let findings = findings_in(alloc, script, told.as_slice()).ok()?;
+    Some((told.len(), findings))
 }
 
 /// The answers to a script, as `desk play` writes them; None where memory is wanting.

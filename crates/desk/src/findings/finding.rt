@@ -1,11 +1,12 @@
 //! What is found in a script by its answers.
-ghost use Rattle.std.specs.Prelude.{◌≡◌, ◌≤◌, [], ◌∷◌, length, map, take, true, IfOk, MatchOption, OnErr, OnOk};
+ghost use Rattle.std.specs.Prelude.{◌≡◌, ◌≤◌, [], ◌∷◌, ◌++◌, codes, length, map, take, true, IfOk, MatchOption, OnErr, OnOk};
 ghost use Rattle.std.specs.List.{flat_map};
 ghost use Rattle.std.specs.Io.KnownBytes.{Appends};
 ghost use Rattle.desk_words.specs.Causes.{heading_of, value_of_cause};
-ghost use Rattle.desk.specs.Finding.{asks as may_ask, count_of as how_many, count_text, finding_text, findings_in as all_found, found_at, found_by, found_here, front_text, in_body_behind, place_text, report_text, shown as is_shown_as, told_behind, told_text};
+ghost use Rattle.desk.specs.Finding.{asks as may_ask, count_of as how_many, count_text, findings_in as all_found, found_at, found_by, found_here, found_of, front_text, in_body_behind, place_text, findings_text, line_of, reference_text, refused_by, refused_text, refused_with, report_text, sums_text, shown as is_shown_as, told_behind, told_text, why_by, within_text, words_told};
 ghost use Rattle.desk.specs.Told.{told_by};
 
+use super::reason::{Reason, reason_of};
 use super::told::Telling;
 use desk_book::{first_line, has_body, is_skipped, is_stop, said_by};
 use desk_streams::Sink;
@@ -28,13 +29,20 @@ pub struct Finding<'a> {
     pub rest: &'a [u8],
 }
 
+/// A finding, and what is told of it besides.
+#[derive(Drop)]
+pub struct Explained<'a> {
+    pub finding: Finding<'a>,
+    pub reason: Reason,
+}
+
 /// What is found in a script by what its answers tell, one for each.
 pub fn findings_in<'a>(
     alloc: Global,
     script: &'a [u8],
     told: &[Telling<'a>],
-) -> Result<Vec<Finding<'a>>, AllocError>
-    ensures { IfOk result (λ findings. map found_by findings.items ≡ all_found script.entry.now (map told_by told.now)) }
+) -> Result<Vec<Explained<'a>>, AllocError>
+    ensures { IfOk result (λ findings. map found_of findings.items ≡ all_found script.entry.now (map told_by told.now)) }
 {
     let mut findings = Vec::new(alloc);
     let mut count = 0;
@@ -44,7 +52,8 @@ pub fn findings_in<'a>(
     while let Some((line, after)) = first_line(rest) {
         count += 1;
         if let Some(finding) = finding_here(in_body, count, line, left) {
-            findings.push(finding)?;
+            let reason = reason_of(alloc, count, rest)?;
+            findings.push(Explained { finding, reason })?;
         }
         left = left_behind(in_body, line, left);
         in_body = body_behind(in_body, line);
@@ -112,17 +121,37 @@ fn finding_at<'a>(line: usize, text: &'a [u8], told: &[Telling<'a>]) -> Option<F
     })
 }
 
-/// Writes each finding in a line, and then how many tell each cause.
-pub fn tell_findings<W: Sink>(findings: &[Finding<'_>], writer: &mut W) -> io::Result<()>
-    ensures written { OnOk result (Appends (W.contents writer.old) (W.contents writer.new) (report_text (map found_by findings.now))) }
+/// Writes each finding in a line, how many tell each cause, and then how many requests there were and how many of them are
+/// found.
+pub fn tell_report<W: Sink>(
+    requests: usize,
+    findings: &[Explained<'_>],
+    writer: &mut W,
+) -> io::Result<()>
+    ensures written { OnOk result (Appends (W.contents writer.old) (W.contents writer.new) (report_text requests (map refused_by findings.now))) }
+    ensures failed { OnErr result (W.may_fail ≡ true) }
+{
+    tell_findings(findings, writer)?;
+    tell_sums(requests, findings.len(), writer)
+}
+
+fn tell_sums<W: Sink>(requests: usize, refused: usize, writer: &mut W) -> io::Result<()>
+    ensures written { OnOk result (Appends (W.contents writer.old) (W.contents writer.new) (sums_text requests refused)) }
+    ensures failed { OnErr result (W.may_fail ≡ true) }
+{
+    writer.put_text(format_args!("{requests} requests, {refused} refused\n"))
+}
+
+fn tell_findings<W: Sink>(findings: &[Explained<'_>], writer: &mut W) -> io::Result<()>
+    ensures written { OnOk result (Appends (W.contents writer.old) (W.contents writer.new) (findings_text (map refused_by findings.now))) }
     ensures failed { OnErr result (W.may_fail ≡ true) }
 {
     tell_lines(findings, writer)?;
     tell_counts(&CAUSES, findings, writer)
 }
 
-fn tell_lines<W: Sink>(findings: &[Finding<'_>], writer: &mut W) -> io::Result<()>
-    ensures written { OnOk result (Appends (W.contents writer.old) (W.contents writer.new) (flat_map (λ finding. finding_text (found_by finding)) findings.now)) }
+fn tell_lines<W: Sink>(findings: &[Explained<'_>], writer: &mut W) -> io::Result<()>
+    ensures written { OnOk result (Appends (W.contents writer.old) (W.contents writer.new) (flat_map line_of findings.now)) }
     ensures failed { OnErr result (W.may_fail ≡ true) }
 {
     for finding in findings {
@@ -131,12 +160,20 @@ fn tell_lines<W: Sink>(findings: &[Finding<'_>], writer: &mut W) -> io::Result<(
     Ok(())
 }
 
-fn tell_line<W: Sink>(finding: &Finding<'_>, writer: &mut W) -> io::Result<()>
-    ensures written { OnOk result (Appends (W.contents writer.old) (W.contents writer.new) (finding_text (found_by finding.now))) }
+fn tell_line<W: Sink>(explained: &Explained<'_>, writer: &mut W) -> io::Result<()>
+    ensures written { OnOk result (Appends (W.contents writer.old) (W.contents writer.new) (line_of explained.now)) }
+    ensures failed { OnErr result (W.may_fail ≡ true) }
+{
+    tell_explained(&explained.finding, &explained.reason, writer)
+}
+
+fn tell_explained<W: Sink>(finding: &Finding<'_>, reason: &Reason, writer: &mut W) -> io::Result<()>
+    ensures written { OnOk result (Appends (W.contents writer.old) (W.contents writer.new) (refused_text (refused_with (found_by finding.now) (why_by reason.now)))) }
     ensures failed { OnErr result (W.may_fail ≡ true) }
 {
     tell_place(finding.line, finding.said, writer)?;
-    tell_cause(finding.cause, finding.rest, writer)
+    tell_cause(finding.cause, finding.rest, reason.words.as_slice(), writer)?;
+    tell_within(finding.line, reason, writer)
 }
 
 fn tell_place<W: Sink>(line: usize, said: &[u8], writer: &mut W) -> io::Result<()>
@@ -147,16 +184,58 @@ fn tell_place<W: Sink>(line: usize, said: &[u8], writer: &mut W) -> io::Result<(
     tell_front(said, writer)
 }
 
-/// Writes what a cause is told with: its number, what stands behind it, and what it means.
-fn tell_cause<W: Sink>(cause: Cause, rest: &[u8], writer: &mut W) -> io::Result<()>
-    ensures written { OnOk result (Appends (W.contents writer.old) (W.contents writer.new) (told_text (value_of_cause cause.entry) rest.now)) }
+/// Writes what a cause is told with: its number, what stands behind it, and these words, or what it means where there are
+/// none.
+fn tell_cause<W: Sink>(cause: Cause, rest: &[u8], words: &[u8], writer: &mut W) -> io::Result<()>
+    ensures written { OnOk result (Appends (W.contents writer.old) (W.contents writer.new) (told_text (value_of_cause cause.entry) rest.now words.now)) }
     ensures failed { OnErr result (W.may_fail ≡ true) }
 {
     let (number, meaning, _) = cause;
     writer.put(b": ")?;
     tell_heading(number, writer)?;
     tell_front(rest, writer)?;
-    writer.put_text(format_args!(": {meaning}\n"))
+    writer.put(b": ")?;
+    writer.put(words_or(words, meaning.as_bytes()))
+}
+
+/// These words, or the others where there are none.
+fn words_or<'a>(words: &'a [u8], others: &'a [u8]) -> &'a [u8]
+    ensures { result.now ≡ words_told words.entry.now others.entry.now }
+{
+    if words.is_empty() { others } else { words }
+}
+
+/// Writes at which other line the fault stands, if it does, and the reference there, and ends the line.
+fn tell_within<W: Sink>(line: usize, reason: &Reason, writer: &mut W) -> io::Result<()>
+    ensures written { OnOk result (Appends (W.contents writer.old) (W.contents writer.new) (within_text line (why_by reason.now))) }
+    ensures failed { OnErr result (W.may_fail ≡ true) }
+{
+    let within = reason.line;
+    if within == line {
+        return writer.put(b"\n");
+    }
+    writer.put_text(format_args!(" (line {within}"))?;
+    tell_reference(reason.reference.as_slice(), writer)?;
+    writer.put(b")\n")
+}
+
+fn tell_reference<W: Sink>(reference: &[u8], writer: &mut W) -> io::Result<()>
+    ensures written { OnOk result (Appends (W.contents writer.old) (W.contents writer.new) (reference_text reference.now)) }
+    ensures failed { OnErr result (W.may_fail ≡ true) }
+{
+    let count = reference.len();
+    if count == 0 {
+        return Ok(());
+    }
+    tell_named(reference, writer)
+}
+
+fn tell_named<W: Sink>(reference: &[u8], writer: &mut W) -> io::Result<()>
+    ensures written { OnOk result (Appends (W.contents writer.old) (W.contents writer.new) (codes ", reference " ++ front_text reference.now)) }
+    ensures failed { OnErr result (W.may_fail ≡ true) }
+{
+    writer.put(b", reference ")?;
+    tell_front(reference, writer)
 }
 
 /// Writes so much of a text as is told, as it is shown.
@@ -201,10 +280,10 @@ fn shown(c: u8) -> u8
 
 fn tell_counts<W: Sink>(
     causes: &[Cause],
-    findings: &[Finding<'_>],
+    findings: &[Explained<'_>],
     writer: &mut W,
 ) -> io::Result<()>
-    ensures written { OnOk result (Appends (W.contents writer.old) (W.contents writer.new) (flat_map (λ cause. count_text (map found_by findings.now) cause.0) causes.now)) }
+    ensures written { OnOk result (Appends (W.contents writer.old) (W.contents writer.new) (flat_map (λ cause. count_text (map refused_by findings.now) cause.0) causes.now)) }
     ensures failed { OnErr result (W.may_fail ≡ true) }
 {
     for cause in causes {
@@ -213,8 +292,8 @@ fn tell_counts<W: Sink>(
     Ok(())
 }
 
-fn tell_count<W: Sink>(number: u8, findings: &[Finding<'_>], writer: &mut W) -> io::Result<()>
-    ensures written { OnOk result (Appends (W.contents writer.old) (W.contents writer.new) (count_text (map found_by findings.now) number)) }
+fn tell_count<W: Sink>(number: u8, findings: &[Explained<'_>], writer: &mut W) -> io::Result<()>
+    ensures written { OnOk result (Appends (W.contents writer.old) (W.contents writer.new) (count_text (map refused_by findings.now) number)) }
     ensures failed { OnErr result (W.may_fail ≡ true) }
 {
     let count = count_of(number, findings);
@@ -226,12 +305,12 @@ fn tell_count<W: Sink>(number: u8, findings: &[Finding<'_>], writer: &mut W) -> 
 }
 
 /// How many findings tell the cause of this number.
-fn count_of(number: u8, findings: &[Finding<'_>]) -> usize
-    ensures { result ≡ how_many number (map found_by findings.now) }
+fn count_of(number: u8, findings: &[Explained<'_>]) -> usize
+    ensures { result ≡ how_many number (map refused_by findings.now) }
 {
     findings
         .iter()
-        .filter(|finding| finding.cause.0 == number)
+        .filter(|explained| explained.finding.cause.0 == number)
         .count()
 }
 

@@ -1,0 +1,2 @@
+pub mod CommandFaults
+pub mod LineFaults

@@ -1,0 +1,5 @@
+//! Why a text is no operator's command.
+pub mod fault;
+pub mod member;
+pub mod reading;
+pub mod value;
