@@ -25,7 +25,13 @@ A_DAY, NOTHING = Due(0, "a day"), Due(0, "nothing")
 NO_DATABASE = Due(50, "it is no database, or a damaged one")
 OTHER_TABLES = Due(50, "it has other tables than the desk's, or others beside")
 OTHER_VERSION = Due(51, "its tables are of another version")
-NOT_OPENED = Due(61, "it cannot be opened, read or written, or another program has it open")
+IN_USE = Due(61, "another program has it open, or its log, or the device failed as it was opened")
+DEVICE = Due(61, "its device failed as it was read, or written: an error there, or no room left")
+JOURNAL = Due(61, "a journal stands beside it, with changes of another program that came to no end")
+UNMADE = Due(61, "it is not there, and cannot be made: nothing may be written in its folder, no room is left, or the name is one as :memory: or file:NAME")
+IS_FOLDER = Due(61, "it cannot be read and written: Is a directory (os error 21)")
+NO_FOLDER = Due(61, "its folder: No such file or directory (os error 2)")
+DENIED = Due(61, "it cannot be read and written: Permission denied (os error 13)")
 
 # A file with a name. One that is held by a connection of the test loses its lock where it is closed elsewhere in that.
 Odd = namedtuple("Odd", "name path due is_held", defaults=(False,))
@@ -208,20 +214,20 @@ def odd_files(room, day):
     yield Odd("half a day's file", written(path("half"), content[: len(content) // 2]), NO_DATABASE)
     yield Odd("auto-vacuum", changed(path("auto"), "PRAGMA auto_vacuum = FULL", "CREATE TABLE note (title TEXT)"), NO_DATABASE)
     yield Odd("UTF-16", changed(path("utf"), "PRAGMA encoding = 'UTF-16'", "CREATE TABLE note (title TEXT)"), NO_DATABASE)
-    yield Odd("a folder", room, NOT_OPENED)
-    yield Odd("no such folder", path("none such/file"), NOT_OPENED)
-    yield Odd("memory", ":memory:", NOT_OPENED)
-    yield Odd("a URI", "file:" + path("uri"), NOT_OPENED)
-    yield Odd("a rollback journal beside it", left_by_kill(of_day("unended"), "-journal", *UNENDED), NOT_OPENED)
+    yield Odd("a folder", room, IS_FOLDER)
+    yield Odd("no such folder", path("none such/file"), NO_FOLDER)
+    yield Odd("memory", ":memory:", UNMADE)
+    yield Odd("a URI", "file:" + path("uri"), NO_FOLDER)
+    yield Odd("a rollback journal beside it", left_by_kill(of_day("unended"), "-journal", *UNENDED), JOURNAL)
     with open_elsewhere(of_day("idle")) as idle:
-        yield Odd("a file that another program has open, idle", idle, NOT_OPENED)
+        yield Odd("a file that another program has open, idle", idle, IN_USE)
     logged = left_by_kill(of_day("logged"), "-wal", "UPDATE version SET number = 3")
     with open(logged + "-wal", "rb"):
         yield Odd("a log beside it, which another program has open", logged, A_DAY)
     for name, mode in ("shared", "BEGIN"), ("exclusive", "BEGIN EXCLUSIVE"):
         journal = of_day(name, "PRAGMA journal_mode = DELETE")
         with held_by_another(journal, mode):
-            yield Odd(f"a file with a lock, {name}", journal, NOT_OPENED, True)
+            yield Odd(f"a file with a lock, {name}", journal, IN_USE, True)
 
 
 def damaged_files(room, day):

@@ -3,6 +3,7 @@ that are printed to them."""
 
 import functools
 import os
+import re
 import subprocess
 import tempfile
 
@@ -11,6 +12,10 @@ PATIENCE = 120
 
 # the word that stands for a path at which there is no file
 NEW = "NEW"
+
+# the line by which standard error tells what the opening of a file found, and one that is cut off
+FOUND = re.compile(rb"desk: [^\n]*: it (?:is new: a desk without entries is made in it|holds (?:no entries|1 entry|\d+ entries))\n")
+CUT_OFF = re.compile(rb"desk: [^\n]*\Z")
 
 # where files lie in memory, and nothing waits for a device; None where there is no such folder
 SHARED_MEMORY = "/dev/shm" if os.access("/dev/shm", os.W_OK) else None
@@ -21,10 +26,27 @@ def read(path):
         return file.read()
 
 
-def ran(program, *words, given=b"", surroundings=None):
+def ran_whole(program, *words, given=b"", surroundings=None):
     """How a program ended: its status, and what it printed and told."""
     ended = subprocess.run([program, *words], input=given, capture_output=True, env=surroundings, timeout=PATIENCE)
     return ended.returncode, ended.stdout, ended.stderr
+
+
+def ran(program, *words, given=b"", surroundings=None):
+    """The same without the line that tells what the opening of a file found."""
+    status, printed, told = ran_whole(program, *words, given=given, surroundings=surroundings)
+    return status, printed, without_found(told)
+
+
+def without_found(told):
+    """What is told on standard error but for what the opening of a file found."""
+    return FOUND.sub(b"", told, count=1)
+
+
+def found_in(path, entries, was_there=True):
+    """What the opening of a file with so many entries tells."""
+    words = {0: "it holds no entries", 1: "it holds 1 entry"}.get(entries, f"it holds {entries} entries")
+    return f"desk: {path}: {words if was_there else 'it is new: a desk without entries is made in it'}\n".encode()
 
 
 def ran_with(streams, *words, given=b""):

@@ -7,7 +7,7 @@ import subprocess
 import sys
 import tempfile
 
-from .play import PATIENCE
+from .play import PATIENCE, without_found
 from .preload import build, refused
 
 # no run here takes memory so often, or makes so many calls; failures that never end are a failure
@@ -53,9 +53,10 @@ def new_library(name):
 def run_refused(words, library, number, text=b""):
     """Runs words on a text with this growth refused (0: none). Gives status and printed bytes, and whether it was refused."""
     ran = subprocess.run(words, input=text, capture_output=True, env=refused(library, number), timeout=PATIENCE)
-    if ran.stderr not in (b"", b"refused\n"):
-        return (ran.returncode, ran.stdout + ran.stderr), True
-    return (ran.returncode, ran.stdout), ran.stderr != b""
+    told = without_found(ran.stderr)
+    if told not in (b"", b"refused\n"):
+        return (ran.returncode, ran.stdout + told), True
+    return (ran.returncode, ran.stdout), told != b""
 
 
 def undisturbed(ask, requests):

@@ -4,6 +4,8 @@ import http.client
 import socket
 import subprocess
 
+from .play import without_found
+
 HOST = "127.0.0.1"
 
 # the most seconds that a client waits: more than the ten after which the desk gives up a silent one
@@ -45,9 +47,9 @@ class Server:
         return self.said == b"listening %d\n" % self.port
 
     def end(self):
-        """Its status, once it has ended, with what it printed behind its first line, and what it told as an error."""
+        """Its status, once it has ended, with what it printed behind its first line, and what it told as an error, but for what was found."""
         printed, told = self.process.communicate(timeout=PATIENCE)
-        return self.process.returncode, printed, told
+        return self.process.returncode, printed, told and without_found(told)
 
     def kill(self):
         """Kills it at once: nothing more is written, and nothing is closed in order."""

@@ -42,7 +42,7 @@ from lib.files import copied, cuts_in, left_otherwise, looked_at, told_otherwise
 from lib.folders import held_in, new_room, told_of
 from lib.odd import script_of_day
 from lib.part import TOP
-from lib.play import PATIENCE, SHARED_MEMORY, ran, read, unlike
+from lib.play import CUT_OFF, PATIENCE, SHARED_MEMORY, ran, read, unlike, without_found
 from lib.server import HOST, free_port, over, received
 from plain.books import EMPTY
 from plain.connections import served
@@ -116,10 +116,12 @@ class Run:
             try:
                 while len(self.spans) == len(self.pieces):
                     self.step(moment)
-                self.rest = b"".join(self.process.communicate(timeout=PATIENCE))
+                self.rest = without_found(b"".join(self.process.communicate(timeout=PATIENCE)))
             finally:
                 self.process.kill()
         self.status = self.process.returncode
+        if self.is_killed():
+            self.rest = CUT_OFF.sub(b"", self.rest)
         return self
 
     def step(self, moment):
@@ -249,9 +251,13 @@ class Drop(Run):
 
     def piece(self):
         """That the first answer stands, and then the line by which it tells people how many files are taken."""
-        is_told, until = False, time.monotonic() + PATIENCE
-        while not self.pieces and not is_told and time.monotonic() < until:
-            is_told = select.select([self.process.stderr], [], [], LOOK)[0] != []
+        until = time.monotonic() + PATIENCE
+        while not self.pieces and time.monotonic() < until:
+            if select.select([self.process.stderr], [], [], LOOK)[0]:
+                # what the opening found comes first
+                told = self.read(self.process.stderr, is_line=True)
+                if without_found(told) or not told:
+                    return without_found(told)
             if not os.path.samestat(os.stat(self.first), self.older):
                 return ANSWERED
         return self.read(self.process.stderr)

@@ -7,7 +7,8 @@ where the test is not run by root, one that may not be read. At each file are le
 standard output must be `fault N` alone, with status 3 (so `serve` tells of no port, and `drop` writes no answer), and standard
 error one line, with the file's name, the number and why. The file must hold the same bytes, and none may stand beside it;
 where there is none, none is made, but by `play`, `serve` and `drop`. Of one that is opened the answers, and what the other
-words print, must be those of the plain program, tests/plain, and what the file holds, as Python's SQLite tells, what it held.
+words print, must be those of the plain program, tests/plain, and what the file holds, as Python's SQLite tells, what it held;
+standard error tells how many entries that are, or that the file is new.
 
 A file of many entries is made by `play --db`, in two parts, and `sums --db` opens it. Where standard error is a terminal, it
 must say behind 20,000 entries, and behind each 5,000 more, that so many are read, and nothing of a file of one entry fewer;
@@ -23,17 +24,19 @@ import subprocess
 import sys
 import tempfile
 
-from lib.files import dumped
+from lib.files import books_after, dumped
 from lib.folders import taken, told_of
-from lib.odd import A_DAY, NOT_OPENED, NOTHING, OTHER_TABLES, Due, Odd, damaged_files, held_by_another
+from lib.odd import A_DAY, DENIED, IN_USE, NOTHING, OTHER_TABLES, Due, Odd, damaged_files, held_by_another
 from lib.odd import command, left_by_kill, odd_files, script_of_day
-from lib.play import PATIENCE, SHARED_MEMORY, ran, unlike
+from lib.play import PATIENCE, SHARED_MEMORY, found_in, ran, ran_whole, unlike
 from lib.server import Server
 from plain.program import answer
 
 MISSING = Due(61, "there is no such file, and none is made")
 # the words that make no file
 ASKING = ["holdings", "sums", "report", "journal"]
+# the words of which it is left out what the opening found
+LEFT_OUT = ["serve", "drop"]
 HOLDER = "ALPHDEFF", "A-1"
 ASKED = b"holdings %s %s\nsums\n" % tuple(it.encode() for it in HOLDER)
 # a log's head, and less than that of a page behind it
@@ -64,11 +67,11 @@ def dropped(program, path):
 def asked(program, word, path):
     """How a word ends over a file: status, what was printed, and what was told. Of one that serves it is what a client gets."""
     if word == "play":
-        return ran(program, "play", "--db", path, given=ASKED)
+        return ran_whole(program, "play", "--db", path, given=ASKED)
     if word == "drop":
         return dropped(program, path)
     if word != "serve":
-        return ran(program, word, "--db", path, *(HOLDER if word == "holdings" else ()))
+        return ran_whole(program, word, "--db", path, *(HOLDER if word == "holdings" else ()))
     with Server(program, 1, dict(os.environ), path) as server:
         got = server.response([GET_SUMS]) if server.listens() else server.said
         status, printed, told = server.end()
@@ -107,6 +110,7 @@ class Files:
     def __init__(self, program, words):
         self.program, self.count, self.tried = program, words, 0
         self.answers = {A_DAY: answers_of_plain(script_of_day()), NOTHING: answers_of_plain(b"")}
+        self.entries = {A_DAY: len(books_after(script_of_day()).history), NOTHING: 0}
 
     def words(self):
         """The words that are let at the next file."""
@@ -123,7 +127,8 @@ class Files:
         if due.fault:
             wanted = 3, b"fault %d\n" % due.fault, f"desk: {path}: fault {due.fault}: {due.why}\n".encode()
         else:
-            wanted = *self.answers[due][word], b""
+            found = b"" if word in LEFT_OUT else found_in(path, self.entries[due], is_there)
+            wanted = *self.answers[due][word], found
         try:
             ended = asked(self.program, word, path)
         except (OSError, subprocess.TimeoutExpired) as error:
@@ -147,7 +152,7 @@ def served(files, room, day):
     """A file that a desk serves meanwhile; it is served on, and whole then."""
     path = shutil.copy(day, os.path.join(room, "served"))
     with Server(files.program, 1, db=path) as server:
-        yield from files.over(Odd("a file that is served", path, NOT_OPENED))
+        yield from files.over(Odd("a file that is served", path, IN_USE))
         got = server.response([GET_SUMS])
         well = got.endswith(b"\r\n\r\n" + files.answers[A_DAY]["serve"][1]) and server.has_ended()
     yield "the one that serves it", "" if well else f"{got!r}"
@@ -163,12 +168,12 @@ def more_files(room, day):
     yield Odd("a database that another left", left, OTHER_TABLES)
     yield Odd("the same, which holds its rows", left, OTHER_TABLES if dumped(left) == held else A_DAY)
     with held_by_another(shutil.copy(day, os.path.join(room, "log")), "BEGIN IMMEDIATE") as path:
-        yield Odd("a file with a log that is held", path, NOT_OPENED)
+        yield Odd("a file with a log that is held", path, IN_USE)
     if os.geteuid() != 0:
         path = shutil.copy(day, os.path.join(room, "closed"))
         opened(path)
         os.chmod(path, 0)
-        yield Odd("a file that may not be read", path, NOT_OPENED)
+        yield Odd("a file that may not be read", path, DENIED)
 
 
 def entries_from(first, last):
@@ -215,7 +220,8 @@ def told_of_many(program):
         for last in UNTOLD - 1, UNTOLD + TOLD_EACH:
             played = end_of(ran, program, "play", "--db", path, given=entries_from(first, last))
             due = "".join(f"desk: {path}: {it} entries are read\n" for it in range(UNTOLD, last + 1, TOLD_EACH)).encode()
-            for name, run, told in ("a terminal", ran_at_terminal, due), ("a pipe", ran, b""):
+            found = found_in(path, last)
+            for name, run, told in ("a terminal", ran_at_terminal, due + found), ("a pipe", ran_whole, found):
                 ended, wanted = end_of(run, program, "sums", "--db", path), (0, sums_behind(last), told)
                 # of what was played the answers are long, and the sums tell whether they are as they must be
                 is_well = ended == wanted and isinstance(played, tuple) and played[::2] == (0, b"")

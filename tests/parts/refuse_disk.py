@@ -36,7 +36,8 @@ NOT_OPENED = 3, b"fault 61\n"
 UNCLOSED = b"fault 61\n"
 
 # what standard error tells too of a file by the desk's own program
-TELLS_NOT_OPENED = "fault 61: it cannot be opened, read or written, or another program has it open"
+# standard error tells why a file is not opened as far as the system does
+TELLS_NOT_OPENED = "fault 61: "
 
 
 def held_in(path):
@@ -105,8 +106,12 @@ class FailedScript:
         if is_unclosed:
             status, printed = 0, printed.removesuffix(UNCLOSED)
         is_closed = CLOSED in printed
-        due = [TELLS_NOT_OPENED] * (ended == NOT_OPENED) + [TELLS_CLOSED] * is_closed + [TELLS_UNCLOSED] * is_unclosed
-        if told != [f"desk: {path}: {it}" for it in due if self.player.closes]:
+        if ended == NOT_OPENED and self.player.closes:
+            is_told = len(told) == 1 and told[0].startswith(f"desk: {path}: {TELLS_NOT_OPENED}")
+        else:
+            due = [TELLS_CLOSED] * is_closed + [TELLS_UNCLOSED] * is_unclosed
+            is_told = told == [f"desk: {path}: {it}" for it in due if self.player.closes]
+        if not is_told:
             return None
         if self.player.closes and ended != NOT_OPENED and os.path.exists(path + "-wal") != is_unclosed:
             return None

@@ -21,7 +21,7 @@ import subprocess
 import sys
 import tempfile
 
-from lib.play import PATIENCE, SHARED_MEMORY, read
+from lib.play import PATIENCE, SHARED_MEMORY, read, without_found
 from lib.preload import build, failed, refused
 from lib.refusing import MOST, in_turn, unmet
 
@@ -57,7 +57,7 @@ class Desk:
         with open(self.script, "rb") as given, open(self.output, "wb") as printed:
             how = {"stdin": given, "stdout": printed, "stderr": subprocess.PIPE, "timeout": PATIENCE, **how}
             ended = subprocess.run([self.program, *words], **how)
-        return ended.returncode, read(self.output), ended.stderr
+        return ended.returncode, read(self.output), without_found(ended.stderr)
 
     def ran_over(self, words, **how):
         """How they end over the file, and whether it is as it was."""

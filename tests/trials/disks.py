@@ -23,7 +23,7 @@ try:
     os.close(os.open(log, os.O_RDWR | os.O_CREAT, 0o600))
 except OSError:
     print("fault 61")
-    tell("fault 61: it cannot be opened, read or written, or another program has it open")
+    tell("fault 61: another program has it open, or its log, or the device failed as it was opened")
     sys.exit(3)
 
 def answer(line):

@@ -175,6 +175,7 @@ if [ "${db##*/}" = many ]; then
   if [ -t 2 ] || [ -n "$ALWAYS" ]; then
     seq "$UNTOLD" 5000 "$count" | sed "s|.*|desk: $db: & entries are read|" >&2
   fi
+  echo "desk: $db: it holds $count entries" >&2
   exec printf '{"cash":[{"ccy":"EUR","held":%d,"net":%d}],"securities":[]}\\n' $((count - 1)) $((count - 1))
 fi
 if ! [ -e "$db" ]; then
@@ -182,12 +183,15 @@ if ! [ -e "$db" ]; then
   [ "$1" != "$MAKES" ] || touch "$db"
   fault 61 "there is no such file, and none is made"
 fi
-if [ -e "$db-shm" ] || [ -e "$db.served" ] || ! [ -r "$db" ]; then
-  fault 61 "it cannot be opened, read or written, or another program has it open"
+[ -r "$db" ] || fault 61 "it cannot be read and written: Permission denied (os error 13)"
+if [ -e "$db-shm" ] || [ -e "$db.served" ]; then
+  fault 61 "another program has it open, or its log, or the device failed as it was opened"
 fi
 ! grep -q "TABLE note" "$db"* || fault 50 "it has other tables than the desk's, or others beside"
 case $1 in
-sums) echo '{"cash":[],"securities":[]}' ;;
+sums)
+  [ -n "$SILENT" ] || echo "desk: $db: it holds no entries" >&2
+  echo '{"cash":[],"securities":[]}' ;;
 serve)
   touch "$db.served"
   "$PLAIN" "$@"
@@ -269,9 +273,9 @@ def trials_of_files(room):
         connection.execute("PRAGMA journal_mode = WAL")
         connection.execute("CREATE TABLE register (number INTEGER PRIMARY KEY)")
 
-    def let_at(makes="", beside="", untold="20000", always=""):
+    def let_at(makes="", beside="", untold="20000", always="", silent=""):
         names = {"TABLES": f"{room}/tables", "PLAIN": f"{TESTS}/plain/desk", "MAKES": makes, "BESIDE": beside}
-        names |= {"UNTOLD": untold, "ALWAYS": always}
+        names |= {"UNTOLD": untold, "ALWAYS": always, "SILENT": silent}
         write_script(f"{room}/looks", *(f"{name}={value}" for name, value in names.items()), LOOKS)
         return run(room, "tests/parts/files", "odd", f"{room}/looks")
 
@@ -285,6 +289,8 @@ def trials_of_files(room):
     yield fails("files odd: a short opening that is told", let_at(untold="15000"), why.format(19_999, "terminal"))
     yield fails("files odd: a long one that is not told", let_at(untold="30000"), why.format(25_000, "terminal"))
     yield fails("files odd: one that is told to a pipe", let_at(always="yes"), why.format(25_000, "pipe"))
+    why = "files odd: sums over the file that was served: "
+    yield fails("files odd: an opening that does not tell what it found", let_at(silent="yes"), why)
 
 
 # what parts tell of a program that does nothing, on these words

@@ -5,6 +5,7 @@ mod PlayLemmas
 mod LeftLemmas
 mod ReportLemmas
 mod RunLemmas
+mod ExplainLemmas
 mod FailureLemmas
 mod FindingLemmas
 mod CheckLemmas

@@ -1,19 +1,12 @@
 -- What `desk explain` answers.
-use Rattle.std.specs.Prelude.{◌≡◌, ◌≢◌, ℕ, Contains, List, ◌++◌, codes, decimal}
-use Rattle.desk_words.specs.Causes.{CauseValue, catalogue, catalogue_text, cause_text}
+use Rattle.std.specs.Prelude.{◌≡◌, ℕ, List, MatchOption}
+use Rattle.desk_words.specs.Topics.{explanation}
+use Rattle.desk_words.specs.declared.topics.TheConstants.{NO_ANSWER}
 use Rattle.desk.specs.declared.status.Status.{Status}
 use Rattle.desk.specs.declared.status.Status.TheVariants as exit
-use Rattle.desk_words.specs.declared.calls.Topic.{Topic}
-use Rattle.desk_words.specs.declared.calls.Topic.TheVariants.{Catalogue, Number}
 
--- the line that tells that a number is told of nothing
-abbrev pub unused_line : ℕ → List ℕ
-unused_line number = codes "no refusal and no fault has the number " ++ decimal number ++ codes "\n"
-
--- What was told: the whole catalogue, or the words of the cause that has the number, with the status done; or that none
--- has it, as refused.
-pub data IsExplainAnswer (topic : Topic) (status : Status) (IsPrinted : List ℕ → Type 0) : Type 0 where
-  told_catalogue : topic ≡ Catalogue → status ≡ exit.Done → IsPrinted catalogue_text → IsExplainAnswer topic status IsPrinted
-  told_cause : (cause : CauseValue) → Contains catalogue cause → topic ≡ Number cause.number → status ≡ exit.Done → IsPrinted (cause_text cause) → IsExplainAnswer topic status IsPrinted
-  told_unused : (number : ℕ) → topic ≡ Number number → ((cause : CauseValue) → Contains catalogue cause → cause.number ≢ number) → status ≡ exit.Refused → IsPrinted (unused_line number)
-      → IsExplainAnswer topic status IsPrinted
+-- What was told of an answer of these words: the text that explains it, with the status done; or, as refused, that the desk gives
+-- no such answer.
+abbrev pub IsExplainAnswer : List (List ℕ) → Status → (List ℕ → Type 0) → Type 0
+IsExplainAnswer words status IsPrinted =
+    MatchOption (explanation words) ((status ≡ exit.Refused) × IsPrinted NO_ANSWER.now) (λ text. (status ≡ exit.Done) × IsPrinted text)

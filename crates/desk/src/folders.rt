@@ -2,7 +2,7 @@
 
 use crate::teller::Teller;
 use desk_text::LONGEST_TEXT;
-use std::fs::File;
+use std::fs::{DirEntry, File, Files};
 use std::io::{Read, Write};
 use std::path::Path;
 use std::rt::HostRuntime;
@@ -32,16 +32,45 @@ pub struct Found {
 pub fn read_folder(rt: &HostRuntime, folder: &str, teller: &Teller<'_>) -> io::Result<Vec<Found>> {
     let mut found = Vec::new(rt.alloc());
     for entry in teller.told(folder, fs::read_dir(rt, folder))? {
-        let entry = teller.told(folder, entry)?;
+        let entry = named(rt, folder, entry, teller)?;
         let name = entry.file_name();
-        if name == UNFINISHED || !teller.told(name, is_file(rt, entry.path(), name))? {
+        if name == UNFINISHED || !teller.told_in(folder, name, is_file(rt, entry.path(), name))? {
             continue;
         }
-        let file = teller.told(name, read_file(rt, entry.path(), name))?;
+        let file = teller.told_in(folder, name, read_file(rt, entry.path(), name))?;
         found.push(file)?;
         teller.has_read(found.len());
     }
     Ok(found)
+}
+
+/// Hands a file of a folder on. People are told where its name is not UTF-8, and where it cannot be had.
+fn named(
+    rt: &HostRuntime,
+    folder: &str,
+    entry: io::Result<DirEntry>,
+    teller: &Teller<'_>,
+) -> io::Result<DirEntry> {
+    match &entry {
+        Err(error) if error.kind() == io::ErrorKind::InvalidFilename => {
+            teller.told(folder, tell_odd_name(rt, folder, teller))?;
+            entry
+        }
+        _ => teller.told(folder, entry),
+    }
+}
+
+/// Tells the first name in a folder that is not UTF-8.
+fn tell_odd_name(rt: &HostRuntime, folder: &str, teller: &Teller<'_>) -> io::Result<()> {
+    let mut names = Vec::new(rt.alloc());
+    rt.open_dir(folder)?.read_to_end(&mut names)?;
+    for name in names.split(|c| *c == 0) {
+        if str::from_utf8(name).is_err() {
+            teller.odd_name(folder, name);
+            return Ok(());
+        }
+    }
+    Ok(())
 }
 
 /// Whether it is a file, whose answer can have its name; else it is a folder. To read what is neither may never end.
@@ -91,7 +120,7 @@ pub fn put_answer(
     answer: &[u8],
     teller: &Teller<'_>,
 ) -> io::Result<()> {
-    teller.told(name, write_and_rename(rt, folder, name, answer))
+    teller.told_in(folder, name, write_and_rename(rt, folder, name, answer))
 }
 
 /// Writes a file under another name into a folder, and renames it.

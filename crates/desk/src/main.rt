@@ -2,13 +2,14 @@
 //!
 //! It stands at the edge: what is answered comes from the crates below, whose contracts say what it is. `answers` has the answer
 //! of each subcommand, `findings` what `desk check` finds in a script, `folders` reads and writes the folders of `desk drop`.
-//! `over_file` does a job over the file of a desk, which `store` opens and closes, and of which `teller` tells people. `status` says
-//! how a run ends, and `run` joins them. Begin with `run.rt`.
+//! `over_file` does a job over the file of a desk, which `store` opens and closes, and of which `teller` tells people; `obstacle` looks
+//! why one is not opened. `status` says how a run ends, and `run` joins them. Begin with `run.rt`.
 #![tactic(auto)]
 
 mod answers;
 mod findings;
 mod folders;
+mod obstacle;
 mod over_file;
 mod run;
 mod status;

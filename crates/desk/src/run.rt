@@ -82,8 +82,8 @@ fn answer<R: Source, W: Sink>(
         Call::Play => answer_play(rt.alloc(), reader, writer),
         Call::PlayOn(db) => over_real_file(rt, db, &Job::Ask(Ask::Play), reader, writer),
         Call::Check => answer_check(rt.alloc(), reader, writer),
-        Call::Explain(topic) => answer_explain(topic, writer),
-        Call::Serve(port, count) => answer_serve(rt, rt.alloc(), port, count, writer),
+        Call::Explain(quoted) => answer_explain(quoted, writer),
+        Call::Serve(port, count) => answer_serve(rt, port, count, writer),
         Call::ServeOn(db, port, count) => {
             let job = Job::Ask(Ask::Serve(port, count));
             over_real_file(rt, db, &job, reader, writer)

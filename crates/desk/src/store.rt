@@ -16,7 +16,7 @@ ghost use Rattle.desk.specs.Status.{Ends, IsFailureTold, IsOpeningFailure, IsUno
 use crate::status::{Failure, Status, tell_failure};
 use crate::teller::Teller;
 use desk_book::WasClosed;
-use desk_file::{MirroredRegister, OpenFault, is_live, open_file};
+use desk_file::{MirroredRegister, is_live, open_file};
 use desk_rules::MOST_ENTRIES;
 use desk_streams::Sink;
 use memory_register::ListRegister;
@@ -41,7 +41,7 @@ pub struct Behind<D: Disk> {
     pub files: Result<Files<D>, FileStore<D>>,
 }
 
-/// Opens the desk of a file, which is made where there is none. Why it is not opened is told on standard error too. `start` stands
+/// Opens the desk of a file, which is made where there is none. What is found in it, or why it is not opened, is told on standard error. `start` stands
 /// for what the files hold, as at `open_file`.
 pub fn open<S: Start>(
     rt: &HostRuntime,
@@ -52,11 +52,15 @@ pub fn open<S: Start>(
     ensures which { IfOk result (IsFoundIn (image_at S.Start)) }
     ensures failure { IfErr result IsOpeningFailure }
 {
+    let was_there = fs::exists(rt, path).unwrap_or(true);
     let mut teller = Teller::new(rt, path);
     match open_file(rt, path, start, MOST_ENTRIES, &mut teller) {
-        Ok(both) => Ok(both),
-        Err((fault, _)) => {
-            teller.unopened(fault);
+        Ok(both) => {
+            teller.opened(was_there);
+            Ok(both)
+        }
+        Err((fault, left)) => {
+            teller.unopened(fault, left.is_some());
             Err(Failure::from(fault))
         }
     }
@@ -90,7 +94,7 @@ fn open_found<S: Start>(
     match found {
         Ok(true) => return open(rt, path, start),
         Ok(false) => Teller::new(rt, path).missing(),
-        Err(_) => Teller::new(rt, path).unopened(OpenFault::Storage),
+        Err(error) => Teller::new(rt, path).unseen(&error),
     }
     Err(Failure::Storage)
 }

@@ -1,5 +1,6 @@
-//! What people are told beside the answers, on standard error, of the file of a desk. No clause speaks of it.
+//! What people are told beside the answers, on standard error, of the file of a desk, and of a port. No clause speaks of it.
 
+use crate::obstacle::{Obstacle, obstacle_to};
 use desk_book::Fault;
 use desk_file::{Difference, OpenFault, Progress, Table};
 use desk_rules::Reply;
@@ -46,17 +47,28 @@ impl Tally {
     }
 }
 
-/// Who is told whether a desk is closed.
+/// Who is told of a port, and whether a desk is closed.
 pub trait Watch {
+    /// The port can be listened at, or not.
+    fn bound<T>(&self, port: u16, bound: &io::Result<T>);
+
     /// The desk is closed or not, now that a request was answered.
     fn look(&mut self, is_closed: bool);
 }
 
-/// Nobody: a desk in memory stays open.
+/// Tells of a port alone: a desk in memory stays open.
 #[derive(Drop)]
-pub struct Nobody;
+pub struct Crier<'a> {
+    pub rt: &'a HostRuntime,
+}
 
-impl Watch for Nobody {
+impl Watch for Crier<'_> {
+    fn bound<T>(&self, port: u16, bound: &io::Result<T>) {
+        if let Err(error) = bound {
+            let _ = eprintln!(self.rt; "desk: port {port} of 127.0.0.1: {error}");
+        }
+    }
+
     fn look(&mut self, _is_closed: bool) {}
 }
 
@@ -69,6 +81,8 @@ pub struct Teller<'a> {
     is_watched: bool,
     /// Whether it was told that the desk is closed
     has_told: bool,
+    /// How many entries were read when the file was opened
+    entries: u64,
 }
 
 impl<'a> Teller<'a> {
@@ -79,20 +93,65 @@ impl<'a> Teller<'a> {
             path,
             is_watched: rt.stderr().is_terminal(),
             has_told: false,
+            entries: 0,
         }
     }
 
-    /// Tells why the file is not opened.
-    pub fn unopened(&self, fault: OpenFault) {
+    /// Tells what was found in the file, which is opened.
+    pub fn opened(&self, was_there: bool) {
+        let path = self.path;
+        let _ = match self.entries {
+            0 if !was_there => {
+                eprintln!(self.rt; "desk: {path}: it is new: a desk without entries is made in it")
+            }
+            0 => eprintln!(self.rt; "desk: {path}: it holds no entries"),
+            1 => eprintln!(self.rt; "desk: {path}: it holds 1 entry"),
+            count => eprintln!(self.rt; "desk: {path}: it holds {count} entries"),
+        };
+    }
+
+    /// Tells why the file is not opened. Where it was, and its device failed then, the system says no more.
+    pub fn unopened(&self, fault: OpenFault, was_open: bool) {
         match fault {
             OpenFault::NotOurFile(difference) => self.differs(difference),
             OpenFault::OtherVersion => self.tell(51, "its tables are of another version"),
             OpenFault::Memory => self.tell(60, "memory is wanting"),
-            OpenFault::Storage => self.tell(
+            OpenFault::Storage if was_open => self.tell(
                 61,
-                "it cannot be opened, read or written, or another program has it open",
+                "its device failed as it was read, or written: an error there, or no room left",
             ),
+            OpenFault::Storage => self.obstructed(),
         }
+    }
+
+    /// Tells what stands in the way of the file.
+    fn obstructed(&self) {
+        match obstacle_to(self.rt, self.path) {
+            Ok(Obstacle::NoFolder(error)) => self.tell_error("its folder", &error),
+            Ok(Obstacle::Unmade) => self.tell(
+                61,
+                "it is not there, and cannot be made: nothing may be written in its folder, no room is left, or the name is one as :memory: or file:NAME",
+            ),
+            Ok(Obstacle::Closed(error)) => self.tell_error("it cannot be read and written", &error),
+            Ok(Obstacle::Journal) => self.tell(
+                61,
+                "a journal stands beside it, with changes of another program that came to no end",
+            ),
+            Ok(Obstacle::Log(error)) => self.tell_error(
+                "its log cannot be read and written",
+                &error,
+            ),
+            Ok(Obstacle::NoneFound) => self.tell(
+                61,
+                "another program has it open, or its log, or the device failed as it was opened",
+            ),
+            Err(error) => self.tell_error("it cannot be looked at", &error),
+        }
+    }
+
+    /// Tells that nobody can say whether there is a file, and why.
+    pub fn unseen(&self, error: &io::Error) {
+        self.tell_error("it cannot be looked at", error);
     }
 
     /// Tells that there is no file.
@@ -108,12 +167,35 @@ impl<'a> Teller<'a> {
         );
     }
 
-    /// Tells of which folder or file something failed, and why, and hands it on. What is not printable in its name is escaped.
+    /// Tells of which folder something failed, and why, and hands it on. What is not printable in its name is escaped.
     pub fn told<T: Drop>(&self, path: &str, done: io::Result<T>) -> io::Result<T> {
         if let Err(error) = &done {
             let _ = eprintln!(self.rt; "desk: {}: {path:?}: {error}", self.path);
         }
         done
+    }
+
+    /// The same of a file in a folder.
+    pub fn told_in<T: Drop>(&self, folder: &str, name: &str, done: io::Result<T>) -> io::Result<T> {
+        if let Err(error) = &done {
+            let _ = eprintln!(self.rt;
+                "desk: {}: \"{}/{}\": {error}",
+                self.path,
+                folder.escape_debug(),
+                name.escape_debug()
+            );
+        }
+        done
+    }
+
+    /// Tells that a file in a folder has a name that is not UTF-8.
+    pub fn odd_name(&self, folder: &str, name: &[u8]) {
+        let _ = eprintln!(self.rt;
+            "desk: {}: \"{}/{}\": its name is not UTF-8",
+            self.path,
+            folder.escape_debug(),
+            name.escape_ascii()
+        );
     }
 
     /// Tells how many files of a folder are read.
@@ -182,10 +264,16 @@ impl<'a> Teller<'a> {
     fn tell(&self, number: u8, words: &str) {
         let _ = eprintln!(self.rt; "desk: {}: fault {number}: {words}", self.path);
     }
+
+    /// Tells that the file failed, and what the system told.
+    fn tell_error(&self, words: &str, error: &io::Error) {
+        let _ = eprintln!(self.rt; "desk: {}: fault 61: {words}: {error}", self.path);
+    }
 }
 
 impl Progress for Teller<'_> {
     fn taken(&mut self, count: u64) {
+        self.entries = count;
         if self.is_watched && count >= UNTOLD && count % TOLD_EACH == 0 {
             let _ = eprintln!(self.rt; "desk: {}: {count} entries are read", self.path);
         }
@@ -193,6 +281,10 @@ impl Progress for Teller<'_> {
 }
 
 impl Watch for Teller<'_> {
+    fn bound<T>(&self, port: u16, bound: &io::Result<T>) {
+        Crier { rt: self.rt }.bound(port, bound);
+    }
+
     fn look(&mut self, is_closed: bool) {
         if is_closed && !self.has_told {
             self.has_told = true;

@@ -1,5 +1,5 @@
 -- The causes of a catalogue, found by their numbers.
-use Rattle.std.proofs.Common.{◌≡◌, ◌≢◌, ◌==◌, ℕ, zero, suc, ◌<◌, Bool, true, false, List, [], ◌∷◌, ◌++◌, codes, map, find, Contains, Option, Some, None, cond, refl, subst, sym, ◌∙◌, ap, arith}
+use Rattle.std.proofs.Common.{◌≡◌, ◌≢◌, ◌==◌, ℕ, zero, suc, ◌<◌, Bool, true, false, List, [], ◌∷◌, ◌++◌, codes, Contains, Option, Some, None, cond, refl, subst, sym, ◌∙◌, ap, arith}
 use Rattle.std.specs.Option.{option_map}
 use Rattle.std.specs.Borrow.{Bor}
 use Rattle.std.specs.Prelude.{◌&&◌, MatchOption, is_none}
@@ -25,23 +25,6 @@ none_below : (k : ℕ) → k < 0 → ⊥
 none_below k below = omega arith
 
 module _ (number : ℕ) where
-  module _ {R : Type 0} (value : R → CauseValue) where
-    chosen : (b : Bool) (row : R) (r : Option R) (s : Option CauseValue) → option_map value r ≡ s → option_map value (cond b (Some row) r) ≡ cond b (Some (value row)) s
-    chosen true row r s same = refl
-    chosen false row r s same = same
-
-    -- what is found among rows is found among their values
-    pub found_value : (rows : List R) → option_map value (find (λ row. (value row).number == number) rows) ≡ find (λ cause. cause.number == number) (map value rows)
-    found_value [] = refl
-    found_value (row ∷ rows) = chosen ((value row).number == number) row _ _ (found_value rows)
-
-    as_it_is : (r : Option R) → option_map value r ≡ option_map value (option_map (λ row. row) r)
-    as_it_is None = refl
-    as_it_is (Some row) = refl
-
-    pub found_so : (rows : List R) (r : Option R) → option_map (λ row. row) r ≡ find (λ row. (value row).number == number) rows → option_map value r ≡ find (λ cause. cause.number == number) (map value rows)
-    found_so rows r is = as_it_is r ∙ ap (option_map value) is ∙ found_value rows
-
   -- a cause that is found among others is one of them, and has the number; where none is found none has it
   IsOne : List CauseValue → Option CauseValue → Type 0
   IsOne causes r = MatchOption r ((cause : CauseValue) → Contains causes cause → cause.number ≢ number) (λ cause. Contains causes cause × (cause.number ≡ number))

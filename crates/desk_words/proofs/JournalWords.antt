@@ -13,7 +13,6 @@ use Rattle.desk_words.proofs.NumberWords.{IsTaken, number_taken, plain_number}
 use Rattle.desk_words.proofs.ReportWords.{IsPlainFile, built_desk, is_no_flag, one_form, passes_stopped, plain_file, stops, takes_by}
 use Rattle.desk_words.proofs.WalkWords.{Walks, at, behind_option, behind_value, ends_well, found_at, goes, level, passes_value, stands, value_row, walks_value}
 use Rattle.desk_words.specs.Words.{CallValue, IsFormatOf, IsFrom, IsFromAskable, IsFromSpelledOut, IsNoOptionIn, IsSaid, IsSpelledOut, check, desk_app, explain, folder, holdings, isin, journal, journal_app, play, read, report, serve, sums, words_for, words_of_file, words_of_format}
-use Rattle.desk_words.specs.declared.calls.Topic.TheVariants.{Catalogue, Number}
 use Rattle.desk_report.specs.declared.format.Format.{Format}
 use Rattle.desk_report.specs.declared.format.Format.TheVariants.{Json, Text}
 
@@ -190,8 +189,7 @@ module _ (asked : CallValue) (f : Found) where
       go (read mt) h = let bad : 106 ≡ 114 = ap (λ t. slice_index t 0) h.0 in absurd (omega (arith, bad))
       go (play db) h = let bad : 106 ≡ 112 = ap (λ t. slice_index t 0) h.0 in absurd (omega (arith, bad))
       go check h = let bad : 106 ≡ 99 = ap (λ t. slice_index t 0) h in absurd (omega (arith, bad))
-      go (explain Catalogue) h = let bad : 106 ≡ 101 = ap (λ t. slice_index t 0) h.0 in absurd (omega (arith, bad))
-      go (explain (Number number)) h = let bad : 106 ≡ 101 = ap (λ t. slice_index t 0) h.0 in absurd (omega (arith, bad))
+      go (explain words) h = let bad : 106 ≡ 101 = ap (λ t. slice_index t 0) h.0 in absurd (omega (arith, bad))
       go (serve db port count) h = let bad : 106 ≡ 115 = ap (λ t. slice_index t 0) h.0 in absurd (omega (arith, bad))
       go (holdings db bic account) h = let bad : 106 ≡ 104 = ap (λ t. slice_index t 0) h.0 in absurd (omega (arith, bad))
       go (sums db) h = let bad : 106 ≡ 115 = ap (λ t. slice_index t 0) h.0 in absurd (omega (arith, bad))

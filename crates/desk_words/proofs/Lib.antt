@@ -6,5 +6,6 @@ mod NumberWords
 mod ParserLemmas
 mod PlainWords
 mod ReportWords
+mod TopicLemmas
 mod WalkWords
 mod WordsLemmas

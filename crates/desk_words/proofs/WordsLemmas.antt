@@ -1,8 +1,8 @@
 -- What the parser of words makes of those that ask for something, and what is taken for a call says it.
-use Rattle.std.proofs.Common.{◌≡◌, ◌&&◌, ◌∙◌, ◌⊎◌, ◌<◌, ◌^◌, inl, inr, sym, ap, ap₂, ℕ, Bool, true, false, List, [], ◌∷◌, Option, Some, None, option_map, slice_index, take, codes, refl, arith, subst}
-use Rattle.std.specs.Prelude.{IfNone, IfSome, IsSomeAnd, Ok, decimal}
+use Rattle.std.proofs.Common.{◌≡◌, ◌&&◌, ◌∙◌, ◌⊎◌, ◌<◌, ◌≤◌, ◌^◌, inl, inr, sym, ap, ap₂, ℕ, Bool, true, false, List, [], ◌∷◌, Option, Some, None, option_map, length, slice_index, take, codes, refl, arith, subst}
+use Rattle.std.specs.Prelude.{All, IfNone, IfSome, IsSomeAnd, Ok, decimal}
 use Rattle.std.specs.Str.Parse.{IsNumeral, digits_value, without_leading_plus}
-use Rattle.std.proofs.lemmas.List.Elements.{All-head}
+use Rattle.std.proofs.lemmas.List.Elements.{All-head, All-tail}
 use Rattle.std.proofs.lemmas.Fmt.{decimal_is_IsNumeral}
 use Rattle.std.specs.Str.{bytes_eq}
 use Rattle.clap.specs.Lexer.{long_of, short_of}
@@ -30,12 +30,10 @@ use Rattle.desk_words.proofs.NumberWords.{IsTaken, no_sign, number_taken, plain_
 use Rattle.desk_words.proofs.PlainWords.{IsPlain, no_dashes, no_long, no_short, plain_word}
 use Rattle.desk_words.proofs.ReportWords.{enters_report, enters_several, one_form, takes_report, takes_several}
 use Rattle.desk_words.proofs.WalkWords.{Walks, behind_option, behind_value, found_at, goes, level, passes_place, passes_value, stands, value_row, walks_place, walks_value}
-use Rattle.desk_words.specs.Words.{ArePartWords, ArePartsOf, CallValue, IsAskable, IsBicText, IsErrorIn, IsFormatOf, IsNoOption, IsNoOptionIn, IsSpelledOut, IsSaid, IsSaidBy, IsSaidIn, IsTypeText, value_of_call, desk_app, IsNumberText, IsTopic, check, explain, holdings, isin, journal, part_words_in, parts_by, play, read, report, report_words, serve, sums, serve_app, words_for, drop_app, folder, holdings_app}
+use Rattle.desk_words.specs.Words.{ArePartWords, ArePartsOf, CallValue, IsAskable, IsBicText, IsErrorIn, IsFormatOf, IsNoOption, IsNoOptionIn, IsSpelledOut, IsSaid, IsSaidBy, IsSaidIn, IsTypeText, value_of_call, desk_app, IsNumberText, answer_words_in, check, explain, holdings, isin, journal, part_words_in, parts_by, play, read, report, report_words, serve, sums, serve_app, words_for, drop_app, explain_app, folder, holdings_app, words_found}
 use Rattle.desk_report.specs.declared.part.Parts.{Parts}
 use Rattle.desk_report.specs.declared.format.Format.{Format}
 use Rattle.desk_words.specs.declared.calls.Call.{Call}
-use Rattle.desk_words.specs.declared.calls.Topic.{Topic}
-use Rattle.desk_words.specs.declared.calls.Topic.TheVariants.{Catalogue, Number}
 
 pub simple : is_simple desk_app ≡ true
 unfolding clap_on_literals
@@ -138,13 +136,85 @@ takes_check : (program : List ℕ) → takes desk_app (program ∷ words_for che
 unfolding clap_on_literals
 takes_check program = refl
 
-takes_explain : (program : List ℕ) → takes desk_app (program ∷ words_for (explain Catalogue)) ≡ true
-unfolding clap_on_literals
-takes_explain program = refl
+-- what the parser knows of `explain`, and three words behind it
+explain_shape : Shape
+explain_shape = built_leaf explain_app.top
 
-takes_number : (program text : List ℕ) → IsTaken 99 text → takes desk_app (program ∷ codes "explain" ∷ text ∷ []) ≡ true
-unfolding clap_on_literals
-takes_number program text is = rw (is.dashes, is.long, is.short, is.fits) refl
+abbrev three : List ℕ → List ℕ → List ℕ → List (List ℕ)
+three first second third = first ∷ second ∷ third ∷ []
+
+end_of_one : List ℕ → Walk
+end_of_one first = behind_value [] (codes "word") first 2
+
+end_of_two : List ℕ → List ℕ → Walk
+end_of_two first second = behind_value (value_row AsWritten (codes "word") first ∷ []) (codes "second") second 3
+
+end_of_three : List ℕ → List ℕ → List ℕ → Walk
+end_of_three first second third = behind_value (value_row AsWritten (codes "word") first ∷ value_row AsWritten (codes "second") second ∷ []) (codes "third") third 4
+
+walks_one : (first : List ℕ) → IsPlain first → Walks explain_shape (walk_from nothing_held) (first ∷ []) (end_of_one first)
+unfolding clap_on_literals explain_shape end_of_one
+walks_one first a = goes (end_of_one first) (passes_place explain_shape nothing_held first 1 a refl) (walks_place explain_shape.rules nothing_held first 1 a) stands
+
+walks_two : (first second : List ℕ) → IsPlain first → IsPlain second → Walks explain_shape (walk_from nothing_held) (first ∷ second ∷ []) (end_of_two first second)
+unfolding clap_on_literals explain_shape end_of_one end_of_two
+walks_two first second a b =
+    let one = end_of_one first in
+    goes one (passes_place explain_shape nothing_held first 1 a refl) (walks_place explain_shape.rules nothing_held first 1 a)
+    (goes (end_of_two first second) (passes_place explain_shape one.held second 2 b refl) (walks_place explain_shape.rules one.held second 2 b) stands)
+
+walks_three : (first second third : List ℕ) → IsPlain first → IsPlain second → IsPlain third → Walks explain_shape (walk_from nothing_held) (three first second third) (end_of_three first second third)
+unfolding clap_on_literals explain_shape end_of_one end_of_two end_of_three
+walks_three first second third a b c =
+    let one = end_of_one first in
+    let two = end_of_two first second in
+    goes one (passes_place explain_shape nothing_held first 1 a refl) (walks_place explain_shape.rules nothing_held first 1 a)
+    (goes two (passes_place explain_shape one.held second 2 b refl) (walks_place explain_shape.rules one.held second 2 b)
+    (goes (end_of_three first second third) (passes_place explain_shape two.held third 3 c refl) (walks_place explain_shape.rules two.held third 3 c) stands))
+
+-- the words of an answer are read as they are, up to three
+record IsQuoted (words : List (List ℕ)) : Type 0 where
+  passes : level_passes explain_shape [] nothing_held words false ≡ true
+  found : words ≡ answer_words_in (rows_at explain_shape words).1
+
+quoted : (words : List (List ℕ)) → length words ≤ 3 → All IsNoOption words → IsQuoted words
+unfolding clap_on_literals explain_shape end_of_one end_of_two end_of_three
+quoted [] short plain = record { passes = refl; found = refl }
+quoted (first ∷ []) short plain =
+    let a = plain_word first (All-head IsNoOption first [] plain) in
+    record {
+      passes = level explain_shape (first ∷ []) (end_of_one first) (walks_one first a) refl;
+      found = found_at explain_shape (λ rows. first ∷ [] ≡ answer_words_in rows) (walks_one first a) refl;
+    }
+quoted (first ∷ second ∷ []) short plain =
+    let a = plain_word first (All-head IsNoOption first (second ∷ []) plain) in
+    let rest = All-tail IsNoOption first (second ∷ []) plain in
+    let b = plain_word second (All-head IsNoOption second [] rest) in
+    record {
+      passes = level explain_shape (first ∷ second ∷ []) (end_of_two first second) (walks_two first second a b) refl;
+      found = found_at explain_shape (λ rows. first ∷ second ∷ [] ≡ answer_words_in rows) (walks_two first second a b) refl;
+    }
+quoted (first ∷ second ∷ third ∷ []) short plain =
+    let a = plain_word first (All-head IsNoOption first (second ∷ third ∷ []) plain) in
+    let rest = All-tail IsNoOption first (second ∷ third ∷ []) plain in
+    let b = plain_word second (All-head IsNoOption second (third ∷ []) rest) in
+    let last = All-tail IsNoOption second (third ∷ []) rest in
+    let c = plain_word third (All-head IsNoOption third [] last) in
+    record {
+      passes = level explain_shape (three first second third) (end_of_three first second third) (walks_three first second third a b c) refl;
+      found = found_at explain_shape (λ rows. three first second third ≡ answer_words_in rows) (walks_three first second third a b c) refl;
+    }
+quoted (first ∷ second ∷ third ∷ fourth ∷ more) short plain = absurd (omega (arith, short))
+
+takes_explain : (program : List ℕ) (words : List (List ℕ)) → length words ≤ 3 → All IsNoOption words → takes desk_app (program ∷ codes "explain" ∷ words) ≡ true
+unfolding clap_on_literals explain_shape
+takes_explain program [] short plain = and_true (level_passes explain_shape [] nothing_held [] false) _ (quoted [] short plain).passes refl
+takes_explain program (first ∷ []) short plain = and_true (level_passes explain_shape [] nothing_held (first ∷ []) false) _ (quoted (first ∷ []) short plain).passes refl
+takes_explain program (first ∷ second ∷ []) short plain =
+    and_true (level_passes explain_shape [] nothing_held (first ∷ second ∷ []) false) _ (quoted (first ∷ second ∷ []) short plain).passes refl
+takes_explain program (first ∷ second ∷ third ∷ []) short plain =
+    and_true (level_passes explain_shape [] nothing_held (three first second third) false) _ (quoted (three first second third) short plain).passes refl
+takes_explain program (first ∷ second ∷ third ∷ fourth ∷ more) short plain = absurd (omega (arith, short))
 
 -- what the parser knows of `serve`, and the words behind it, without a file and with one
 serve_shape : Shape
@@ -231,8 +301,7 @@ takes_asked program (read mt) is = takes_read program mt is
 takes_asked program (play None) is = takes_play program
 takes_asked program (play (Some db)) is = takes_play_on program db (plain_word db is)
 takes_asked program check is = takes_check program
-takes_asked program (explain Catalogue) is = takes_explain program
-takes_asked program (explain (Number number)) is = takes_number program (decimal number) (number_taken number 99 is.0 is.1 (omega arith))
+takes_asked program (explain words) is = takes_explain program words is.0 is.1
 takes_asked program (serve None port count) is =
     takes_service program (decimal port) (decimal count) (number_taken port 65535 is.1.0 is.1.1 (omega arith)) (number_taken count 1000000 is.2 is.3 (omega arith))
 takes_asked program (serve (Some db) port count) is =
@@ -303,14 +372,14 @@ enters_check : (program : List ℕ) → IsSomeAnd (subcommand_of desk_app (progr
 unfolding clap_on_literals
 enters_check program = refl
 
-enters_explain : (program : List ℕ) → IsSomeAnd (subcommand_of desk_app (program ∷ words_for (explain Catalogue))) (λ p. (p.0 ≡ codes "explain") × (first_of (codes "number") p.1 ≡ None))
-unfolding clap_on_literals
-enters_explain program = (refl, refl)
-
-enters_number : (program text : List ℕ) → IsTaken 99 text
-    → IsSomeAnd (subcommand_of desk_app (program ∷ codes "explain" ∷ text ∷ [])) (λ p. (p.0 ≡ codes "explain") × (first_of (codes "number") p.1 ≡ Some text) × (one_of (codes "number") p.1 ≡ Some text))
-unfolding clap_on_literals
-enters_number program text is = (refl, rw (is.dashes, is.long, is.short) refl, rw (is.dashes, is.long, is.short, is.plain) refl)
+enters_explain : (program : List ℕ) (words : List (List ℕ)) → length words ≤ 3 → All IsNoOption words
+    → IsSomeAnd (subcommand_of desk_app (program ∷ codes "explain" ∷ words)) (λ p. (p.0 ≡ codes "explain") × (words ≡ answer_words_in p.1))
+unfolding clap_on_literals explain_shape
+enters_explain program [] short plain = (refl, (quoted [] short plain).found)
+enters_explain program (first ∷ []) short plain = (refl, (quoted (first ∷ []) short plain).found)
+enters_explain program (first ∷ second ∷ []) short plain = (refl, (quoted (first ∷ second ∷ []) short plain).found)
+enters_explain program (first ∷ second ∷ third ∷ []) short plain = (refl, (quoted (three first second third) short plain).found)
+enters_explain program (first ∷ second ∷ third ∷ fourth ∷ more) short plain = absurd (omega (arith, short))
 
 rows_without : (port count : List ℕ) → IsTaken 65535 port → IsTaken 1000000 count
     → (first_of (codes "db") (rows_at serve_shape (words_without port count)).1 ≡ None) × (one_of (codes "port") (rows_at serve_shape (words_without port count)).1 ≡ Some port)
@@ -354,12 +423,6 @@ enters_folder : (program db from to : List ℕ) → IsPlain db → IsPlain from 
 unfolding clap_on_literals drop_shape
 enters_folder program db from to f a b = let rows = rows_of_folder db from to f a b in (refl, rows.0, rows.1, rows.2)
 
-number_entered : (found : Option (List ℕ × List Row)) (n : ℕ) → n < 2 ^ 8
-    → IsSomeAnd found (λ p. (p.0 ≡ codes "explain") × (first_of (codes "number") p.1 ≡ Some (decimal n)) × (one_of (codes "number") p.1 ≡ Some (decimal n)))
-    → IsSomeAnd found (λ p. IsSpelledOut (explain (Number n)) p.0 p.1)
-number_entered None n small is = is
-number_entered (Some p) n small is = (is.0, is.1, is.2, small)
-
 service_entered : (found : Option (List ℕ × List Row)) (db : Option (List ℕ)) (port count : ℕ) → port < 2 ^ 16 → count < 2 ^ 32
     → IsSomeAnd found (λ p. (p.0 ≡ codes "serve") × (first_of (codes "db") p.1 ≡ db) × (one_of (codes "port") p.1 ≡ Some (decimal port)) × (one_of (codes "count") p.1 ≡ Some (decimal count)))
     → IsSomeAnd found (λ p. IsSpelledOut (serve db port count) p.0 p.1)
@@ -372,10 +435,7 @@ enters_asked program (read mt) is = enters_read program mt is
 enters_asked program (play None) is = enters_play program
 enters_asked program (play (Some db)) is = enters_play_on program db (plain_word db is)
 enters_asked program check is = enters_check program
-enters_asked program (explain Catalogue) is = enters_explain program
-enters_asked program (explain (Number number)) is =
-    let small : number < 2 ^ 8 = omega (arith, is.1) in
-    number_entered _ number small (enters_number program (decimal number) (number_taken number 99 is.0 is.1 (omega arith)))
+enters_asked program (explain words) is = enters_explain program words is.0 is.1
 enters_asked program (serve None port count) is =
     let a : port < 2 ^ 16 = omega (arith, is.1.1) in
     let b : count < 2 ^ 32 = omega (arith, is.3) in
@@ -430,8 +490,7 @@ module _ (asked : CallValue) (name : List ℕ) (f : Found) where
       go (read mt) h = let bad : 114 ≡ 105 = ap (λ t. slice_index t 0) (sym h.0 ∙ is) in absurd (omega (arith, bad))
       go (play db) h = let bad : 112 ≡ 105 = ap (λ t. slice_index t 0) (sym h.0 ∙ is) in absurd (omega (arith, bad))
       go check h = let bad : 99 ≡ 105 = ap (λ t. slice_index t 0) (sym h ∙ is) in absurd (omega (arith, bad))
-      go (explain Catalogue) h = let bad : 101 ≡ 105 = ap (λ t. slice_index t 0) (sym h.0 ∙ is) in absurd (omega (arith, bad))
-      go (explain (Number number)) h = let bad : 101 ≡ 105 = ap (λ t. slice_index t 0) (sym h.0 ∙ is) in absurd (omega (arith, bad))
+      go (explain words) h = let bad : 101 ≡ 105 = ap (λ t. slice_index t 0) (sym h.0 ∙ is) in absurd (omega (arith, bad))
       go (serve db port count) h = let bad : 115 ≡ 105 = ap (λ t. slice_index t 0) (sym h.0 ∙ is) in absurd (omega (arith, bad))
       go (holdings db bic account) h = let bad : 104 ≡ 105 = ap (λ t. slice_index t 0) (sym h.0 ∙ is) in absurd (omega (arith, bad))
       go (sums db) h = let bad : 115 ≡ 105 = ap (λ t. slice_index t 0) (sym h.0 ∙ is) in absurd (omega (arith, bad))
@@ -447,8 +506,7 @@ module _ (asked : CallValue) (name : List ℕ) (f : Found) where
       go (read mt) h = (mt, refl, one_text-rows f (codes "mt") ∙ h.1, h.2)
       go (play db) h = let bad : 112 ≡ 114 = ap (λ t. slice_index t 0) (sym h.0 ∙ is) in absurd (omega (arith, bad))
       go check h = let bad : 99 ≡ 114 = ap (λ t. slice_index t 0) (sym h ∙ is) in absurd (omega (arith, bad))
-      go (explain Catalogue) h = let bad : 101 ≡ 114 = ap (λ t. slice_index t 0) (sym h.0 ∙ is) in absurd (omega (arith, bad))
-      go (explain (Number number)) h = let bad : 101 ≡ 114 = ap (λ t. slice_index t 0) (sym h.0 ∙ is) in absurd (omega (arith, bad))
+      go (explain words) h = let bad : 101 ≡ 114 = ap (λ t. slice_index t 0) (sym h.0 ∙ is) in absurd (omega (arith, bad))
       go (serve db port count) h = let bad : 115 ≡ 114 = ap (λ t. slice_index t 0) (sym h.0 ∙ is) in absurd (omega (arith, bad))
       go (holdings db bic account) h = let bad : 104 ≡ 114 = ap (λ t. slice_index t 0) (sym h.0 ∙ is) in absurd (omega (arith, bad))
       go (sums db) h = let bad : 115 ≡ 114 = ap (λ t. slice_index t 0) (sym h.0 ∙ is) in absurd (omega (arith, bad))
@@ -464,8 +522,7 @@ module _ (asked : CallValue) (name : List ℕ) (f : Found) where
       go (read mt) h = let bad : 114 ≡ 112 = ap (λ t. slice_index t 0) (sym h.0 ∙ is) in absurd (omega (arith, bad))
       go (play db) h = (db, refl, first_value-rows f (codes "db") ∙ h.1)
       go check h = let bad : 99 ≡ 112 = ap (λ t. slice_index t 0) (sym h ∙ is) in absurd (omega (arith, bad))
-      go (explain Catalogue) h = let bad : 101 ≡ 112 = ap (λ t. slice_index t 0) (sym h.0 ∙ is) in absurd (omega (arith, bad))
-      go (explain (Number number)) h = let bad : 101 ≡ 112 = ap (λ t. slice_index t 0) (sym h.0 ∙ is) in absurd (omega (arith, bad))
+      go (explain words) h = let bad : 101 ≡ 112 = ap (λ t. slice_index t 0) (sym h.0 ∙ is) in absurd (omega (arith, bad))
       go (serve db port count) h = let bad : 115 ≡ 112 = ap (λ t. slice_index t 0) (sym h.0 ∙ is) in absurd (omega (arith, bad))
       go (holdings db bic account) h = let bad : 104 ≡ 112 = ap (λ t. slice_index t 0) (sym h.0 ∙ is) in absurd (omega (arith, bad))
       go (sums db) h = let bad : 115 ≡ 112 = ap (λ t. slice_index t 0) (sym h.0 ∙ is) in absurd (omega (arith, bad))
@@ -473,23 +530,15 @@ module _ (asked : CallValue) (name : List ℕ) (f : Found) where
       go (journal db from format) h = let bad : 106 ≡ 112 = ap (λ t. slice_index t 0) (sym h.0 ∙ is) in absurd (omega (arith, bad))
       go (folder db from to) h = let bad : 100 ≡ 112 = ap (λ t. slice_index t 0) (sym h.0 ∙ is) in absurd (omega (arith, bad))
 
-  -- the words of `explain`: none behind it, or a number
-  IsTopicNamed : CallValue → Type 0
-  IsTopicNamed a =
-      ((a ≡ explain Catalogue) × (first_value f (codes "number") ≡ None))
-      ⊎ ((n : ℕ) × (a ≡ explain (Number n)) × (n < 2 ^ 8) × (first_value f (codes "number") ≡ Some (decimal n)) × (one_text f (codes "number") ≡ Some (decimal n)))
-
-  named_explain : name ≡ codes "explain" → IsSpelledOut asked name (rows_of f) → IsTopicNamed asked
-  unfolding IsTopicNamed
+  named_explain : name ≡ codes "explain" → IsSpelledOut asked name (rows_of f) → (words : List (List ℕ)) × (asked ≡ explain words) × (words ≡ answer_words_in (rows_of f))
   named_explain is named = go asked named
     where
-      go : (a : CallValue) → IsSpelledOut a name (rows_of f) → IsTopicNamed a
+      go : (a : CallValue) → IsSpelledOut a name (rows_of f) → (words : List (List ℕ)) × (a ≡ explain words) × (words ≡ answer_words_in (rows_of f))
       go (isin code) h = let bad : 105 ≡ 101 = ap (λ t. slice_index t 0) (sym h.0 ∙ is) in absurd (omega (arith, bad))
       go (read mt) h = let bad : 114 ≡ 101 = ap (λ t. slice_index t 0) (sym h.0 ∙ is) in absurd (omega (arith, bad))
       go (play db) h = let bad : 112 ≡ 101 = ap (λ t. slice_index t 0) (sym h.0 ∙ is) in absurd (omega (arith, bad))
       go check h = let bad : 99 ≡ 101 = ap (λ t. slice_index t 0) (sym h ∙ is) in absurd (omega (arith, bad))
-      go (explain Catalogue) h = inl (refl, first_value-rows f (codes "number") ∙ h.1)
-      go (explain (Number number)) h = inr (number, refl, h.3, first_value-rows f (codes "number") ∙ h.1, one_text-rows f (codes "number") ∙ h.2)
+      go (explain words) h = (words, refl, h.1)
       go (serve db port count) h = let bad : 115 ≡ 101 = ap (λ t. slice_index t 0) (sym h.0 ∙ is) in absurd (omega (arith, bad))
       go (holdings db bic account) h = let bad : 104 ≡ 101 = ap (λ t. slice_index t 0) (sym h.0 ∙ is) in absurd (omega (arith, bad))
       go (sums db) h = let bad : 115 ≡ 101 = ap (λ t. slice_index t 0) (sym h.0 ∙ is) in absurd (omega (arith, bad))
@@ -497,18 +546,13 @@ module _ (asked : CallValue) (name : List ℕ) (f : Found) where
       go (journal db from format) h = let bad : 106 ≡ 101 = ap (λ t. slice_index t 0) (sym h.0 ∙ is) in absurd (omega (arith, bad))
       go (folder db from to) h = let bad : 100 ≡ 101 = ap (λ t. slice_index t 0) (sym h.0 ∙ is) in absurd (omega (arith, bad))
 
-  pub no_topic : name ≡ codes "explain" → (first_value f (codes "number") ≡ None → ⊥)
-      → ((n : ℕ) → n < 2 ^ 8 → first_value f (codes "number") ≡ Some (decimal n) → one_text f (codes "number") ≡ Some (decimal n) → ⊥)
-      → IsSpelledOut asked name (rows_of f) → ⊥
-  unfolding IsTopicNamed
-  no_topic is some number named = elim (named_explain is named) [ inl none ↦ some none.1 | inr one ↦ number one.0 one.2 one.3 one.4 ]
+  -- the words that the getters give are those of the rows
+  given_words : words_found (first_value f (codes "word")) (first_value f (codes "second")) (first_value f (codes "third")) ≡ answer_words_in (rows_of f)
+  given_words = rw (first_value-rows f (codes "word"), first_value-rows f (codes "second"), first_value-rows f (codes "third")) refl
 
-  pub same_topic : (found : Topic) → name ≡ codes "explain" → (first_value f (codes "number") ≡ None → found ≡ Catalogue)
-      → ((n : ℕ) → n < 2 ^ 8 → first_value f (codes "number") ≡ Some (decimal n) → one_text f (codes "number") ≡ Some (decimal n) → found ≡ Number n)
-      → IsSpelledOut asked name (rows_of f) → explain found ≡ asked
-  unfolding IsTopicNamed
-  same_topic found is none number named =
-      elim (named_explain is named) [ inl all ↦ ap explain (none all.1) ∙ sym all.0 | inr one ↦ ap explain (number one.0 one.2 one.3 one.4) ∙ sym one.1 ]
+  pub same_answer : (words : List (List ℕ)) → name ≡ codes "explain" → words ≡ words_found (first_value f (codes "word")) (first_value f (codes "second")) (first_value f (codes "third"))
+      → IsSpelledOut asked name (rows_of f) → explain words ≡ asked
+  same_answer words is given named = let n = named_explain is named in ap explain (given ∙ given_words ∙ sym n.2) ∙ sym n.1
 
   named_serve : name ≡ codes "serve" → IsSpelledOut asked name (rows_of f) → (db : Option (List ℕ)) × (port : ℕ) × (count : ℕ) × (asked ≡ serve db port count) × (first_value f (codes "db") ≡ db) × (one_text f (codes "port") ≡ Some (decimal port)) × (port < 2 ^ 16) × (one_text f (codes "count") ≡ Some (decimal count)) × (count < 2 ^ 32)
   named_serve is named = go asked named
@@ -518,8 +562,7 @@ module _ (asked : CallValue) (name : List ℕ) (f : Found) where
       go (read mt) h = let bad : 114 ≡ 115 = ap (λ t. slice_index t 0) (sym h.0 ∙ is) in absurd (omega (arith, bad))
       go (play db) h = let bad : 112 ≡ 115 = ap (λ t. slice_index t 0) (sym h.0 ∙ is) in absurd (omega (arith, bad))
       go check h = let bad : 99 ≡ 115 = ap (λ t. slice_index t 0) (sym h ∙ is) in absurd (omega (arith, bad))
-      go (explain Catalogue) h = let bad : 101 ≡ 115 = ap (λ t. slice_index t 0) (sym h.0 ∙ is) in absurd (omega (arith, bad))
-      go (explain (Number number)) h = let bad : 101 ≡ 115 = ap (λ t. slice_index t 0) (sym h.0 ∙ is) in absurd (omega (arith, bad))
+      go (explain words) h = let bad : 101 ≡ 115 = ap (λ t. slice_index t 0) (sym h.0 ∙ is) in absurd (omega (arith, bad))
       go (serve db port count) h = (db, port, count, refl, first_value-rows f (codes "db") ∙ h.1, one_text-rows f (codes "port") ∙ h.2, h.3, one_text-rows f (codes "count") ∙ h.4, h.5)
       go (holdings db bic account) h = let bad : 104 ≡ 115 = ap (λ t. slice_index t 0) (sym h.0 ∙ is) in absurd (omega (arith, bad))
       go (sums db) h = let bad : 117 ≡ 101 = ap (λ t. slice_index t 1) (sym h.0 ∙ is) in absurd (omega (arith, bad))
@@ -549,8 +592,7 @@ module _ (asked : CallValue) (name : List ℕ) (f : Found) where
       go (read mt) h = let bad : 114 ≡ 104 = ap (λ t. slice_index t 0) (sym h.0 ∙ is) in absurd (omega (arith, bad))
       go (play db) h = let bad : 112 ≡ 104 = ap (λ t. slice_index t 0) (sym h.0 ∙ is) in absurd (omega (arith, bad))
       go check h = let bad : 99 ≡ 104 = ap (λ t. slice_index t 0) (sym h ∙ is) in absurd (omega (arith, bad))
-      go (explain Catalogue) h = let bad : 101 ≡ 104 = ap (λ t. slice_index t 0) (sym h.0 ∙ is) in absurd (omega (arith, bad))
-      go (explain (Number number)) h = let bad : 101 ≡ 104 = ap (λ t. slice_index t 0) (sym h.0 ∙ is) in absurd (omega (arith, bad))
+      go (explain words) h = let bad : 101 ≡ 104 = ap (λ t. slice_index t 0) (sym h.0 ∙ is) in absurd (omega (arith, bad))
       go (serve db port count) h = let bad : 115 ≡ 104 = ap (λ t. slice_index t 0) (sym h.0 ∙ is) in absurd (omega (arith, bad))
       go (holdings db bic account) h = (db, bic, account, refl, first_value-rows f (codes "db") ∙ h.1, h.2, first_value-rows f (codes "bic") ∙ h.3, first_value-rows f (codes "account") ∙ h.4)
       go (sums db) h = let bad : 115 ≡ 104 = ap (λ t. slice_index t 0) (sym h.0 ∙ is) in absurd (omega (arith, bad))
@@ -566,8 +608,7 @@ module _ (asked : CallValue) (name : List ℕ) (f : Found) where
       go (read mt) h = let bad : 114 ≡ 115 = ap (λ t. slice_index t 0) (sym h.0 ∙ is) in absurd (omega (arith, bad))
       go (play db) h = let bad : 112 ≡ 115 = ap (λ t. slice_index t 0) (sym h.0 ∙ is) in absurd (omega (arith, bad))
       go check h = let bad : 99 ≡ 115 = ap (λ t. slice_index t 0) (sym h ∙ is) in absurd (omega (arith, bad))
-      go (explain Catalogue) h = let bad : 101 ≡ 115 = ap (λ t. slice_index t 0) (sym h.0 ∙ is) in absurd (omega (arith, bad))
-      go (explain (Number number)) h = let bad : 101 ≡ 115 = ap (λ t. slice_index t 0) (sym h.0 ∙ is) in absurd (omega (arith, bad))
+      go (explain words) h = let bad : 101 ≡ 115 = ap (λ t. slice_index t 0) (sym h.0 ∙ is) in absurd (omega (arith, bad))
       go (serve db port count) h = let bad : 101 ≡ 117 = ap (λ t. slice_index t 1) (sym h.0 ∙ is) in absurd (omega (arith, bad))
       go (holdings db bic account) h = let bad : 104 ≡ 115 = ap (λ t. slice_index t 0) (sym h.0 ∙ is) in absurd (omega (arith, bad))
       go (sums db) h = (db, refl, first_value-rows f (codes "db") ∙ h.1)
@@ -585,8 +626,7 @@ module _ (asked : CallValue) (name : List ℕ) (f : Found) where
       go (read mt) h = let bad : 114 ≡ 100 = ap (λ t. slice_index t 0) (sym h.0 ∙ is) in absurd (omega (arith, bad))
       go (play db) h = let bad : 112 ≡ 100 = ap (λ t. slice_index t 0) (sym h.0 ∙ is) in absurd (omega (arith, bad))
       go check h = let bad : 99 ≡ 100 = ap (λ t. slice_index t 0) (sym h ∙ is) in absurd (omega (arith, bad))
-      go (explain Catalogue) h = let bad : 101 ≡ 100 = ap (λ t. slice_index t 0) (sym h.0 ∙ is) in absurd (omega (arith, bad))
-      go (explain (Number number)) h = let bad : 101 ≡ 100 = ap (λ t. slice_index t 0) (sym h.0 ∙ is) in absurd (omega (arith, bad))
+      go (explain words) h = let bad : 101 ≡ 100 = ap (λ t. slice_index t 0) (sym h.0 ∙ is) in absurd (omega (arith, bad))
       go (serve db port count) h = let bad : 115 ≡ 100 = ap (λ t. slice_index t 0) (sym h.0 ∙ is) in absurd (omega (arith, bad))
       go (holdings db bic account) h = let bad : 104 ≡ 100 = ap (λ t. slice_index t 0) (sym h.0 ∙ is) in absurd (omega (arith, bad))
       go (sums db) h = let bad : 115 ≡ 100 = ap (λ t. slice_index t 0) (sym h.0 ∙ is) in absurd (omega (arith, bad))
@@ -608,8 +648,7 @@ module _ (asked : CallValue) (name : List ℕ) (f : Found) where
       go (read mt) h = let bad : 97 ≡ 112 = ap (λ t. slice_index t 2) (sym h.0 ∙ is) in absurd (omega (arith, bad))
       go (play db) h = let bad : 112 ≡ 114 = ap (λ t. slice_index t 0) (sym h.0 ∙ is) in absurd (omega (arith, bad))
       go check h = let bad : 99 ≡ 114 = ap (λ t. slice_index t 0) (sym h ∙ is) in absurd (omega (arith, bad))
-      go (explain Catalogue) h = let bad : 101 ≡ 114 = ap (λ t. slice_index t 0) (sym h.0 ∙ is) in absurd (omega (arith, bad))
-      go (explain (Number number)) h = let bad : 101 ≡ 114 = ap (λ t. slice_index t 0) (sym h.0 ∙ is) in absurd (omega (arith, bad))
+      go (explain words) h = let bad : 101 ≡ 114 = ap (λ t. slice_index t 0) (sym h.0 ∙ is) in absurd (omega (arith, bad))
       go (serve db port count) h = let bad : 115 ≡ 114 = ap (λ t. slice_index t 0) (sym h.0 ∙ is) in absurd (omega (arith, bad))
       go (holdings db bic account) h = let bad : 104 ≡ 114 = ap (λ t. slice_index t 0) (sym h.0 ∙ is) in absurd (omega (arith, bad))
       go (sums db) h = let bad : 115 ≡ 114 = ap (λ t. slice_index t 0) (sym h.0 ∙ is) in absurd (omega (arith, bad))
@@ -676,8 +715,7 @@ same_check asked name rows is spelled = go asked spelled
     go (read mt) h = let bad : 114 ≡ 99 = ap (λ t. slice_index t 0) (sym h.0 ∙ is) in absurd (omega (arith, bad))
     go (play db) h = let bad : 112 ≡ 99 = ap (λ t. slice_index t 0) (sym h.0 ∙ is) in absurd (omega (arith, bad))
     go check h = refl
-    go (explain Catalogue) h = let bad : 101 ≡ 99 = ap (λ t. slice_index t 0) (sym h.0 ∙ is) in absurd (omega (arith, bad))
-    go (explain (Number number)) h = let bad : 101 ≡ 99 = ap (λ t. slice_index t 0) (sym h.0 ∙ is) in absurd (omega (arith, bad))
+    go (explain words) h = let bad : 101 ≡ 99 = ap (λ t. slice_index t 0) (sym h.0 ∙ is) in absurd (omega (arith, bad))
     go (serve db port count) h = let bad : 115 ≡ 99 = ap (λ t. slice_index t 0) (sym h.0 ∙ is) in absurd (omega (arith, bad))
     go (holdings db bic account) h = let bad : 104 ≡ 99 = ap (λ t. slice_index t 0) (sym h.0 ∙ is) in absurd (omega (arith, bad))
     go (sums db) h = let bad : 115 ≡ 99 = ap (λ t. slice_index t 0) (sym h.0 ∙ is) in absurd (omega (arith, bad))
@@ -693,8 +731,7 @@ no_word (isin code) name rows other _ _ _ _ _ _ _ _ _ _ named = other named.0
 no_word (read mt) name rows _ other _ _ _ _ _ _ _ _ _ named = other named.0
 no_word (play db) name rows _ _ other _ _ _ _ _ _ _ _ named = other named.0
 no_word check name rows _ _ _ other _ _ _ _ _ _ _ named = other named
-no_word (explain Catalogue) name rows _ _ _ _ other _ _ _ _ _ _ named = other named.0
-no_word (explain (Number number)) name rows _ _ _ _ other _ _ _ _ _ _ named = other named.0
+no_word (explain words) name rows _ _ _ _ other _ _ _ _ _ _ named = other named.0
 no_word (serve db port count) name rows _ _ _ _ _ other _ _ _ _ _ named = other named.0
 no_word (holdings db bic account) name rows _ _ _ _ _ _ other _ _ _ _ named = other named.0
 no_word (sums db) name rows _ _ _ _ _ _ _ other _ _ _ named = other named.0
@@ -785,11 +822,9 @@ said_type name f mt is text =
     let P : Option (List ℕ) → Type 0 = λ found. IsSomeAnd found (IsTypeText mt) in
     (is, subst P (one_text-rows f (codes "mt")) text)
 
-pub said_topic : (name : List ℕ) (f : Found) (topic : Topic) → name ≡ codes "explain" → IsTopic topic (first_value f (codes "number")) (one_text f (codes "number")) → IsSaid (explain topic) name (rows_of f)
-said_topic name f Catalogue is none = (is, sym (first_value-rows f (codes "number")) ∙ none)
-said_topic name f (Number number) is text =
-    let P : Option (List ℕ) → Type 0 = λ found. IsSomeAnd found (IsNumberText number) in
-    (is, subst P (one_text-rows f (codes "number")) text)
+pub said_answer : (name : List ℕ) (f : Found) (words : List (List ℕ)) → name ≡ codes "explain" → words ≡ words_found (first_value f (codes "word")) (first_value f (codes "second")) (first_value f (codes "third"))
+    → IsSaid (explain words) name (rows_of f)
+said_answer name f words is given = (is, given ∙ given_words (explain words) name f)
 
 pub said_service : (name : List ℕ) (f : Found) (db : Option (List ℕ)) (port count : ℕ) → name ≡ codes "serve" → db ≡ first_value f (codes "db") → IsSomeAnd (one_text f (codes "port")) (IsNumberText port) → IsSomeAnd (one_text f (codes "count")) (IsNumberText count)
     → IsSaid (serve db port count) name (rows_of f)

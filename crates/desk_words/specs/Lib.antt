@@ -1,3 +1,4 @@
 pub mod Causes
 pub mod Parser
+pub mod Topics
 pub mod Words

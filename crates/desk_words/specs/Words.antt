@@ -1,5 +1,5 @@
 -- Which words ask for what.
-use Rattle.std.specs.Prelude.{◌≡◌, ◌≢◌, ◌⊎◌, ◌<◌, ◌≤◌, ◌^◌, ◌&&◌, ◌||◌, ℕ, Bool, List, [], ◌∷◌, Option, Some, None, Ok, pos, true, false, if◌then◌else◌, codes, decimal, slice_index, unwrap_or, All, IsSomeAnd, IsTrue, MatchOption}
+use Rattle.std.specs.Prelude.{◌≡◌, ◌≢◌, ◌⊎◌, ◌<◌, ◌≤◌, ◌^◌, ◌&&◌, ◌||◌, ℕ, Bool, List, [], ◌∷◌, Option, Some, None, Ok, pos, true, false, if◌then◌else◌, codes, decimal, length, slice_index, unwrap_or, All, IsSomeAnd, IsTrue, MatchOption}
 use Rattle.std.specs.List.{list_any}
 use Rattle.std.specs.Str.{byte, bytes_eq}
 use Rattle.std.specs.Str.Parse.{IsNumeral, digits_value, without_leading_plus}
@@ -15,12 +15,11 @@ use Rattle.desk_report.specs.declared.part.Parts.{Parts}
 use Rattle.desk_report.specs.declared.format.Format.{Format}
 use Rattle.desk_report.specs.declared.format.Format.TheVariants.{Json, Text}
 use Rattle.desk_words.specs.declared.calls.Call.{Call}
-use Rattle.desk_words.specs.declared.calls.Topic.{Topic}
-use Rattle.desk_words.specs.declared.calls.Topic.TheVariants.{Catalogue, Number}
+use Rattle.desk_words.specs.Topics.{words_quoted}
 use Rattle.desk_words.specs.declared.calls.Call.TheVariants.{Isin, Read, Play, PlayOn, Check, Explain, Serve, ServeOn, Holdings, Sums, Report, ReportOn, Journal, JournalOn, Folder}
 
 -- what is asked for: whether a code is an ISIN, what a message of a type says, a script's answers, what is refused in
--- a script, what a number means or all of them, to serve so many connections at a port, what a participant's account holds,
+-- a script, what an answer of these words means, to serve so many connections at a port, what a participant's account holds,
 -- the totals, what stands at this moment, the accepted entries from a number on, or all of them, or the answers to the
 -- files of a folder; of the desk of a file, or of one in memory where no file is named
 pub data CallValue : Type 0 where
@@ -28,7 +27,7 @@ pub data CallValue : Type 0 where
   read : (mt : Mt) → CallValue
   play : (db : Option (List ℕ)) → CallValue
   check : CallValue
-  explain : (topic : Topic) → CallValue
+  explain : (words : List (List ℕ)) → CallValue
   serve : (db : Option (List ℕ)) (port count : ℕ) → CallValue
   holdings : (db bic account : List ℕ) → CallValue
   sums : (db : List ℕ) → CallValue
@@ -42,7 +41,7 @@ value_of_call (Read mt) = read mt
 value_of_call Play = play None
 value_of_call (PlayOn db) = play (Some db.now)
 value_of_call Check = check
-value_of_call (Explain topic) = explain topic
+value_of_call (Explain quoted) = explain (words_quoted quoted)
 value_of_call (Serve port count) = serve None port count
 value_of_call (ServeOn db port count) = serve (Some db.now) port count
 value_of_call (Holdings db owner account) = holdings db.now owner account.now
@@ -135,8 +134,7 @@ words_for (isin code) = codes "isin" ∷ code ∷ []
 words_for (read mt) = codes "read" ∷ digits_of_type mt ∷ []
 words_for (play db) = codes "play" ∷ words_of_file db []
 words_for check = codes "check" ∷ []
-words_for (explain Catalogue) = codes "explain" ∷ []
-words_for (explain (Number number)) = codes "explain" ∷ decimal number ∷ []
+words_for (explain words) = codes "explain" ∷ words
 words_for (serve db port count) = codes "serve" ∷ words_of_file db (codes "--port" ∷ decimal port ∷ codes "--count" ∷ decimal count ∷ [])
 words_for (holdings db bic account) = codes "holdings" ∷ words_of_file (Some db) (bic ∷ account ∷ [])
 words_for (sums db) = codes "sums" ∷ words_of_file (Some db) []
@@ -162,15 +160,14 @@ abbrev pub IsFromAskable : Option ℕ → Type 0
 IsFromAskable None = Unit {0}
 IsFromAskable (Some number) = (1 ≤ number) × (number ≤ 999999999)
 
--- The code, the file, the account and the folders do not begin as an option, the type is one of an instruction, the participant is one in its
+-- The code, the file, the account, the folders and the words of an answer (three at most) do not begin as an option, the type is one of an instruction, the participant is one in its
 -- one spelling, the numbers are those that may be asked for, and of a report some part is told.
 abbrev pub IsAskable : CallValue → Type 0
 IsAskable (isin code) = IsNoOption code
 IsAskable (read mt) = is_instruction mt ≡ true
 IsAskable (play db) = IsNoOptionIn db
 IsAskable check = Unit {0}
-IsAskable (explain Catalogue) = Unit {0}
-IsAskable (explain (Number number)) = (1 ≤ number) × (number ≤ 99)
+IsAskable (explain words) = (length words ≤ 3) × All IsNoOption words
 IsAskable (serve db port count) = IsNoOptionIn db × ((1 ≤ port) × (port ≤ 65535)) × (1 ≤ count) × (count ≤ 1000000)
 IsAskable (holdings db bic account) = IsNoOption db × IsBic bic × IsNoOption account
 IsAskable (sums db) = IsNoOption db
@@ -187,15 +184,24 @@ abbrev pub IsFromSpelledOut : Option ℕ → Option (List ℕ) → Option (List 
 IsFromSpelledOut None first one = first ≡ None
 IsFromSpelledOut (Some number) first one = (first ≡ Some (decimal number)) × (one ≡ Some (decimal number)) × (number < 2 ^ 32)
 
+-- the words of an answer that were found, up to the first that was not
+abbrev pub found_before : Option (List ℕ) → List (List ℕ) → List (List ℕ)
+found_before None words = []
+found_before (Some word) words = word ∷ words
+
+abbrev pub words_found : Option (List ℕ) → Option (List ℕ) → Option (List ℕ) → List (List ℕ)
+words_found first second third = found_before first (found_before second (found_before third []))
+
+abbrev pub answer_words_in : List Row → List (List ℕ)
+answer_words_in rows = words_found (first_of (codes "word") rows) (first_of (codes "second") rows) (first_of (codes "third") rows)
+
 -- what a subcommand's name and matches ask for, spelled out as `words_for` spells it
 abbrev pub IsSpelledOut : CallValue → List ℕ → List Row → Type 0
 IsSpelledOut (isin code) name rows = (name ≡ codes "isin") × (first_of (codes "code") rows ≡ Some code)
 IsSpelledOut (read mt) name rows = (name ≡ codes "read") × (one_of (codes "mt") rows ≡ Some (digits_of_type mt)) × (is_instruction mt ≡ true)
 IsSpelledOut (play db) name rows = (name ≡ codes "play") × (first_of (codes "db") rows ≡ db)
 IsSpelledOut check name rows = name ≡ codes "check"
-IsSpelledOut (explain Catalogue) name rows = (name ≡ codes "explain") × (first_of (codes "number") rows ≡ None)
-IsSpelledOut (explain (Number number)) name rows =
-    (name ≡ codes "explain") × (first_of (codes "number") rows ≡ Some (decimal number)) × (one_of (codes "number") rows ≡ Some (decimal number)) × (number < 2 ^ 8)
+IsSpelledOut (explain words) name rows = (name ≡ codes "explain") × (words ≡ answer_words_in rows)
 IsSpelledOut (serve db port count) name rows =
     (name ≡ codes "serve") × (first_of (codes "db") rows ≡ db) × (one_of (codes "port") rows ≡ Some (decimal port)) × (port < 2 ^ 16) × (one_of (codes "count") rows ≡ Some (decimal count)) × (count < 2 ^ 32)
 IsSpelledOut (holdings db bic account) name rows =
@@ -234,11 +240,11 @@ play_app = with_rule (new_app (codes "play")) db_rule
 abbrev pub check_app : App
 check_app = new_app (codes "check")
 
-abbrev pub cause_rule : Rule
-cause_rule = record (new_rule (codes "number")) { value_names = 1; parser = Some (Signed (pos 1) (pos 99)) }
+abbrev pub word_rule : List ℕ → Rule
+word_rule name = record (new_rule name) { value_names = 1 }
 
 abbrev pub explain_app : App
-explain_app = with_rule (new_app (codes "explain")) cause_rule
+explain_app = with_rule (with_rule (with_rule (new_app (codes "explain")) (word_rule (codes "word"))) (word_rule (codes "second"))) (word_rule (codes "third"))
 
 abbrev pub port_rule : Rule
 port_rule = record (new_rule (codes "port")) { long = Some (codes "port"); value_names = 1; required = true; parser = Some (Signed (pos 1) (pos 65535)) }
@@ -306,11 +312,6 @@ IsBicText bic text = ReadsBic text (Ok bic)
 abbrev pub IsTypeText : Mt → List ℕ → Type 0
 IsTypeText mt text = IsNumberText (number_of_type mt) text
 
--- what is to be explained, by the words that were found for it
-abbrev pub IsTopic : Topic → Option (List ℕ) → Option (List ℕ) → Type 0
-IsTopic Catalogue first one = first ≡ None
-IsTopic (Number number) first one = IsSomeAnd one (IsNumberText number)
-
 -- the number of the entry to begin with, by the words that were found for it
 abbrev pub IsFrom : Option ℕ → Option (List ℕ) → Option (List ℕ) → Type 0
 IsFrom None first one = first ≡ None
@@ -322,7 +323,7 @@ IsSaid (isin code) name rows = (name ≡ codes "isin") × (first_of (codes "code
 IsSaid (read mt) name rows = (name ≡ codes "read") × IsSomeAnd (one_of (codes "mt") rows) (IsTypeText mt)
 IsSaid (play db) name rows = (name ≡ codes "play") × (first_of (codes "db") rows ≡ db)
 IsSaid check name rows = name ≡ codes "check"
-IsSaid (explain topic) name rows = (name ≡ codes "explain") × IsTopic topic (first_of (codes "number") rows) (one_of (codes "number") rows)
+IsSaid (explain words) name rows = (name ≡ codes "explain") × (words ≡ answer_words_in rows)
 IsSaid (serve db port count) name rows =
     (name ≡ codes "serve") × (first_of (codes "db") rows ≡ db) × IsSomeAnd (one_of (codes "port") rows) (IsNumberText port) × IsSomeAnd (one_of (codes "count") rows) (IsNumberText count)
 IsSaid (holdings db bic account) name rows =

@@ -4,10 +4,12 @@ ghost use Rattle.clap.specs.Words.{first_value, found_of, kind_of, one_text, row
 ghost use Rattle.desk_codes.specs.Bic.{IsBic};
 ghost use Rattle.desk_msg.specs.MessageType.{digits_of_type, is_instruction, number_of_type};
 ghost use Rattle.desk_msg.specs.declared.mt.Mt.{Mt};
-ghost use Rattle.desk_words.specs.Words.{ArePartWords, ArePartsOf, CallValue, IsAskable, IsBicText, IsErrorIn, IsFormatOf, IsFrom, IsFromSpelledOut, IsNoOptionIn, IsSpelledOut, ReadsOnlyInstructions, IsSaid, IsSaidBy, IsSaidIn, IsNumberText, IsTopic, IsTypeText, is_part_word, is_told, part_words_in, parts_by, report_words, value_of_call, words_for};
+ghost use Rattle.desk_words.specs.Words.{ArePartWords, ArePartsOf, CallValue, IsAskable, IsBicText, IsErrorIn, IsFormatOf, IsFrom, IsFromSpelledOut, IsNoOptionIn, IsSpelledOut, ReadsOnlyInstructions, IsSaid, IsSaidBy, IsSaidIn, IsNumberText, IsTypeText, is_part_word, is_told, part_words_in, parts_by, report_words, value_of_call, words_for, words_found};
+ghost use Rattle.desk_words.specs.Topics.{words_quoted};
 
 use crate::helps::NO_PART;
 use crate::parser::desk;
+use crate::topics::Quoted;
 use clap::ArgMatches;
 use clap::error::{Error, ErrorKind};
 use desk_book::party;
@@ -33,8 +35,8 @@ pub enum Call<'a> {
     PlayOn(&'a str),
     /// What is refused in a script
     Check,
-    /// What is told in place of an answer, explained
-    Explain(Topic),
+    /// What is told in place of an answer of these words, explained
+    Explain(Quoted<'a>),
     /// Requests over HTTP at a port of 127.0.0.1, of so many connections, on a desk in memory
     Serve(u16, u32),
     /// The same on the desk of a file
@@ -53,15 +55,6 @@ pub enum Call<'a> {
     JournalOn(&'a str, Option<u32>, Format),
     /// The answers to the files of a folder, on the desk of a file: that file, the folder, and the one of the answers
     Folder(&'a str, &'a str, &'a str),
-}
-
-/// What is explained.
-#[derive(Clone, Copy)]
-pub enum Topic {
-    /// Each refusal and each fault
-    Catalogue,
-    /// What a number means
-    Number(u8),
 }
 
 /// What is served.
@@ -136,7 +129,7 @@ fn subcommand_call<'a>(name: &str, inner: &ArgMatches<'a>) -> Option<Call<'a>>
         "read" => Some(Call::Read(type_in(inner)?)),
         "play" => Some(play_call(inner)),
         "check" => Some(Call::Check),
-        "explain" => Some(Call::Explain(topic_in(inner)?)),
+        "explain" => Some(Call::Explain(quoted_in(inner))),
         "serve" => serve_call(inner),
         "holdings" => holdings_call(inner),
         "sums" => Some(Call::Sums(inner.get_str("db")?)),
@@ -157,16 +150,14 @@ fn type_in(inner: &ArgMatches) -> Option<Mt>
     instruction_type(inner.get_one::<u16>("mt")?)
 }
 
-/// What is to be explained.
-fn topic_in(inner: &ArgMatches) -> Option<Topic>
-    ensures said { IfSome result (λ topic. IsTopic topic (first_value (found_of inner.now) (codes "number")) (one_text (found_of inner.now) (codes "number"))) }
-    ensures asked { first_value (found_of inner.now) (codes "number") ≡ None → IsSomeAnd result (λ topic. topic ≡ Topic.Catalogue) }
-    ensures number { (number : ℕ) → number < 2 ^ 8 → first_value (found_of inner.now) (codes "number") ≡ Some (decimal number) → one_text (found_of inner.now) (codes "number") ≡ Some (decimal number)
-        → IsSomeAnd result (λ topic. topic ≡ Topic.Number number) }
+/// The words of an answer that are given.
+fn quoted_in<'a>(inner: &ArgMatches<'a>) -> Quoted<'a>
+    ensures { words_quoted result ≡ words_found (first_value (found_of inner.now) (codes "word")) (first_value (found_of inner.now) (codes "second")) (first_value (found_of inner.now) (codes "third")) }
 {
-    match inner.get_str("number") {
-        None => Some(Topic::Catalogue),
-        Some(_) => Some(Topic::Number(inner.get_one::<u8>("number")?)),
+    Quoted {
+        first: inner.get_str("word"),
+        second: inner.get_str("second"),
+        third: inner.get_str("third"),
     }
 }
 

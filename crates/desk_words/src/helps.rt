@@ -17,8 +17,8 @@ pub const PROGRAM: &str = "\
 Exit status:
   0  done
   1  refused: the code is no ISIN, the text is no message, a request of the script that
-     was checked is refused, the account is not the participant's, or the number is told
-     of nothing
+     was checked is refused, the account is not the participant's, or the desk gives no
+     such answer
   2  usage: the words are wrong
   3  fault: memory, the input, the output or the file of the desk failed, or the file is
      none of a desk's
@@ -83,12 +83,13 @@ Example:
 
 /// Of `desk explain`
 pub const EXPLAIN: &str = "\
-These are the numbers of the desk. `refused 404` and its like, with three digits, are HTTP's own: the status
-of the answer once more. `fault io` tells that what was to be read could not be, that the script is too
-long, or that the port of `desk serve` is in use or may not be had.
+The words are those of an answer, as `refused 7 19A`, `5 REAG`, `fault 61` or `fault io`; `refused` and `fault`
+may be left out. Behind 5, 6 and 7 stands the field that is named, or each; behind 30 the command or the member
+that is named, or each. `refused 404` and its like, with three digits, are HTTP's own: the status of the answer
+once more. Words that no answer has are refused.
 
 Example:
-  ./desk explain 12";
+  ./desk explain refused 7 19A";
 
 /// Of `desk serve`
 pub const SERVE: &str = "\

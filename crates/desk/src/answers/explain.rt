@@ -1,41 +1,40 @@
 //! `desk explain`.
-ghost use Rattle.std.specs.Prelude.{◌≡◌, true, IfOk, OnErr};
+ghost use Rattle.std.specs.Prelude.{◌≡◌, ◌∷◌, [], codes, decimal, true, IfOk, IsSome, OnErr};
+ghost use Rattle.std.specs.Option.{option_map};
 ghost use Rattle.std.specs.Io.KnownBytes.{Appends};
+ghost use Rattle.desk_http.specs.Refusals.{status_of_refusal};
+ghost use Rattle.desk_http.specs.declared.refusal.Refusal.{Refusal};
+ghost use Rattle.desk_words.specs.Topics.{explanation, topic_text, words_quoted};
 ghost use Rattle.desk.specs.ExplainAnswer.{IsExplainAnswer};
 
 use crate::status::Status;
 use desk_streams::Sink;
-use desk_words::{Topic, cause_of, write_catalogue, write_cause};
+use desk_words::{NO_ANSWER, Quoted, Topic, topic_of, write_topic};
 use std::io;
 
-/// Prints the whole catalogue, or what a number means that is told in place of an answer, and what to do about it. A
-/// number that is told of nothing is refused.
-pub fn answer_explain<W: Sink>(topic: Topic, writer: &mut W) -> io::Result<Status>
-    ensures told { IfOk result (λ status. IsExplainAnswer topic status (Appends (W.contents writer.old) (W.contents writer.new))) }
+/// Prints what an answer of these words means, and what to do about it; of no words, each that has a number. An answer that the
+/// desk does not give is refused.
+pub fn answer_explain<W: Sink>(quoted: Quoted<'_>, writer: &mut W) -> io::Result<Status>
+    ensures told { IfOk result (λ status. IsExplainAnswer (words_quoted quoted.entry) status (Appends (W.contents writer.old) (W.contents writer.new))) }
     ensures failed { OnErr result (W.may_fail ≡ true) }
 {
-    match topic {
-        Topic::Catalogue => {
-            write_catalogue(writer)?;
-            Ok(Status::Done)
-        }
-        Topic::Number(number) => explain_number(number, writer),
-    }
-}
-
-/// Prints what a number means.
-fn explain_number<W: Sink>(number: u8, writer: &mut W) -> io::Result<Status>
-    ensures told { IfOk result (λ status. IsExplainAnswer (Topic.Number number) status (Appends (W.contents writer.old) (W.contents writer.new))) }
-    ensures failed { OnErr result (W.may_fail ≡ true) }
-{
-    match cause_of(number) {
-        Some(cause) => {
-            write_cause(cause, writer)?;
+    match topic_named(quoted) {
+        Some(topic) => {
+            write_topic(topic, writer)?;
             Ok(Status::Done)
         }
         None => {
-            writer.put_text(format_args!("no refusal and no fault has the number {number}\n"))?;
+            writer.put(NO_ANSWER.as_bytes())?;
             Ok(Status::Refused)
         }
     }
+}
+
+/// What these words name. Each of HTTP's own refusals has a name, and so has the fault without a number.
+fn topic_named(quoted: Quoted<'_>) -> Option<Topic>
+    ensures value { option_map topic_text result ≡ explanation (words_quoted quoted.entry) }
+    ensures http { (refusal : Refusal) → IsSome (explanation (codes "refused" ∷ decimal (status_of_refusal refusal) ∷ [])) }
+    ensures input { IsSome (explanation (codes "fault" ∷ codes "io" ∷ [])) }
+{
+    topic_of(quoted)
 }

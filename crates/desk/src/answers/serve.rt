@@ -9,7 +9,7 @@ ghost use Rattle.desk_http.specs.Served.{Serves};
 ghost use Rattle.desk.specs.ServeAnswer.{HoldsOn, IsServeAnswer, listening_line};
 
 use crate::status::{Failure, Status, tell_failure};
-use crate::teller::{Nobody, Watch};
+use crate::teller::{Crier, Watch};
 use desk_book::Desk;
 use desk_http::{Routes, serve_one};
 use desk_register::Register;
@@ -19,6 +19,7 @@ use memory_register::ListRegister;
 use std::alloc::Global;
 use std::io::{self, Read};
 use std::net::{Ipv4Addr, Net, Shutdown, TcpListener, TcpStream};
+use std::rt::HostRuntime;
 use std::time::Duration;
 
 /// So many seconds may a read, or a write, of a connection wait for its client.
@@ -32,10 +33,9 @@ const MOST_LAST_READS: usize = 1024;
 
 /// Serves so many connections at a port of 127.0.0.1, one after another, on a new desk in memory, once it has told that it
 /// listens. A connection that fails, and one that could not be accepted, counts and is passed over. `fault 60` tells that
-/// memory is wanting for the routes, and `fault io` that it could not listen.
-pub fn answer_serve<N: Net<Listener = TcpListener, Stream = TcpStream>, W: Sink>(
-    net: &N,
-    alloc: Global,
+/// memory is wanting for the routes, and `fault io` that it could not listen; why is told on standard error.
+pub fn answer_serve<W: Sink>(
+    rt: &HostRuntime,
     port: u16,
     count: u32,
     writer: &mut W,
@@ -43,8 +43,9 @@ pub fn answer_serve<N: Net<Listener = TcpListener, Stream = TcpStream>, W: Sink>
     ensures told { IfOk result (λ status. IsServeAnswer port status (Appends (W.contents writer.old) (W.contents writer.new))) }
     ensures failed { OnErr result (W.may_fail ≡ true) }
 {
+    let alloc = rt.alloc();
     let mut desk = Desk::new(ListRegister::new(alloc, MOST_ENTRIES));
-    serve_desk(net, alloc, port, count, &mut desk, &mut Nobody, writer)
+    serve_desk(rt, alloc, port, count, &mut desk, &mut Crier { rt }, writer)
 }
 
 /// Serves so many connections on a desk, once it has told where it listens.
@@ -70,7 +71,9 @@ pub fn serve_desk<
     let Ok(routes) = Routes::new(alloc) else {
         return tell_failure(Failure::Memory, writer);
     };
-    let Ok(listener) = TcpListener::bind(net, (Ipv4Addr::LOCALHOST, port)) else {
+    let bound = TcpListener::bind(net, (Ipv4Addr::LOCALHOST, port));
+    watch.bound(port, &bound);
+    let Ok(listener) = bound else {
         return tell_failure(Failure::Input, writer);
     };
     tell_port(port, writer)?;

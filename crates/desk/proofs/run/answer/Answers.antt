@@ -2,6 +2,7 @@ use Rattle.std.proofs.Common.{refl}
 use Rattle.std.specs.Io.KnownBytes.{Appends}
 use Rattle.desk.proofs.RunLemmas.{told_of, told_unread}
 use Rattle.desk.specs.ExplainAnswer.{IsExplainAnswer}
+use Rattle.desk_words.specs.Topics.{words_quoted}
 use Rattle.desk_words.specs.Words.{explain}
 use Rattle.desk.specs.declared.answers.report.Shown.TheVariants as shown
 use Rattle.desk_words.specs.declared.calls.Call.TheVariants as call
@@ -22,8 +23,8 @@ returns-in-Check-clause-told g c =
 pub returns-in-Explain-clause-told : goal.returns-in-Explain-clause-told
 returns-in-Explain-clause-told g c =
     let P = (Appends (g.W.Write.contents c.args.writer.now) (g.W.Write.contents c.answer_explain.new.writer)) in
-    told_of c.answer_explain.result (g.R.Read.remaining c.args.reader.now) _ g.R.Source.may_fail P c.args.call (call.Explain c.in-Explain.topic) c.in-Explain.is
-    (told_unread c.answer_explain.result (g.R.Read.remaining c.args.reader.now) _ g.R.Source.may_fail P (explain c.in-Explain.topic) (λ status. IsExplainAnswer c.in-Explain.topic status P) refl c.answer_explain.ensures.told (λ status unread t. (unread, t)))
+    told_of c.answer_explain.result (g.R.Read.remaining c.args.reader.now) _ g.R.Source.may_fail P c.args.call (call.Explain c.in-Explain.quoted) c.in-Explain.is
+    (told_unread c.answer_explain.result (g.R.Read.remaining c.args.reader.now) _ g.R.Source.may_fail P (explain (words_quoted c.in-Explain.quoted)) (λ status. IsExplainAnswer (words_quoted c.in-Explain.quoted) status P) refl c.answer_explain.ensures.told (λ status unread t. (unread, t)))
 
 pub returns-in-Report-clause-told : goal.returns-in-Report-clause-told
 returns-in-Report-clause-told g c =

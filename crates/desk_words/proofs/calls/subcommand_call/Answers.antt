@@ -2,7 +2,7 @@ use Rattle.std.proofs.Common.{sym, subst}
 use Rattle.std.specs.Prelude.{IfSome}
 use Rattle.clap.specs.Words.{found_of, rows_of}
 use Rattle.desk_words.specs.Words.{IsSaid, IsSpelledOut, value_of_call}
-use Rattle.desk_words.proofs.WordsLemmas.{no_code, no_sums, no_topic, no_type, no_word, none_said, said_code, said_sums, said_topic, said_type, same_check, same_code, same_sums, same_topic, same_type}
+use Rattle.desk_words.proofs.WordsLemmas.{no_code, no_sums, no_type, no_word, none_said, said_code, said_sums, said_answer, said_type, same_check, same_code, same_sums, same_answer, same_type}
 use Rattle.desk_words.proofs.calls.subcommand_call.Goals as goal
 
 pub returns-in_err-get_str-in-isin-clause-asked : goal.returns-in_err-get_str-in-isin-clause-asked
@@ -16,16 +16,6 @@ returns-in_err-type_in-in-read-clause-asked c = λ asked named. absurd (no_type 
 
 pub returns-in_ok-type_in-in-read-clause-asked : goal.returns-in_ok-type_in-in-read-clause-asked
 returns-in_ok-type_in-in-read-clause-asked c = λ asked named. same_type asked c.args.name.now (found_of c.args.inner.now) _ c.in-read.is c.in_ok-type_in-in-read.ensures.asked named
-
-pub returns-in_err-topic_in-in-explain-clause-asked : goal.returns-in_err-topic_in-in-explain-clause-asked
-returns-in_err-topic_in-in-explain-clause-asked c = λ asked named. absurd (no_topic asked c.args.name.now (found_of c.args.inner.now) c.in-explain.is c.in_err-topic_in-in-explain.ensures.asked c.in_err-topic_in-in-explain.ensures.number named)
-
-pub returns-in_ok-topic_in-in-explain-clause-asked : goal.returns-in_ok-topic_in-in-explain-clause-asked
-returns-in_ok-topic_in-in-explain-clause-asked c = λ asked named.
-    same_topic asked c.args.name.now (found_of c.args.inner.now) _ c.in-explain.is c.in_ok-topic_in-in-explain.ensures.asked c.in_ok-topic_in-in-explain.ensures.number named
-
-pub returns-in_ok-topic_in-in-explain-clause-said : goal.returns-in_ok-topic_in-in-explain-clause-said
-returns-in_ok-topic_in-in-explain-clause-said c = said_topic c.args.name.now (found_of c.args.inner.now) _ c.in-explain.is c.in_ok-topic_in-in-explain.ensures.said
 
 pub returns-in_ok-get_str-in-isin-clause-said : goal.returns-in_ok-get_str-in-isin-clause-said
 returns-in_ok-get_str-in-isin-clause-said c = said_code c.args.name.now (found_of c.args.inner.now) _ c.in-isin.is c.in_ok-get_str-in-isin.ensures
@@ -90,12 +80,6 @@ returns-in_err-type_in-in-read-clause-readable c = none_said c.from_residual-in_
 pub returns-in_err-type_in-in-read-clause-said : goal.returns-in_err-type_in-in-read-clause-said
 returns-in_err-type_in-in-read-clause-said c = none_said c.from_residual-in_err-type_in-in-read.result _ c.from_residual-in_err-type_in-in-read.ensures
 
-pub returns-in_err-topic_in-in-explain-clause-readable : goal.returns-in_err-topic_in-in-explain-clause-readable
-returns-in_err-topic_in-in-explain-clause-readable c = none_said c.from_residual-in_err-topic_in-in-explain.result _ c.from_residual-in_err-topic_in-in-explain.ensures
-
-pub returns-in_err-topic_in-in-explain-clause-said : goal.returns-in_err-topic_in-in-explain-clause-said
-returns-in_err-topic_in-in-explain-clause-said c = none_said c.from_residual-in_err-topic_in-in-explain.result _ c.from_residual-in_err-topic_in-in-explain.ensures
-
 pub returns-in_err-get_str-in-sums-clause-readable : goal.returns-in_err-get_str-in-sums-clause-readable
 returns-in_err-get_str-in-sums-clause-readable c = none_said c.from_residual-in_err-get_str-in-sums.result _ c.from_residual-in_err-get_str-in-sums.ensures
 
@@ -107,9 +91,6 @@ returns-in_ok-get_str-in-isin-clause-readable c = tt
 
 pub returns-in-check-clause-readable : goal.returns-in-check-clause-readable
 returns-in-check-clause-readable c = tt
-
-pub returns-in_ok-topic_in-in-explain-clause-readable : goal.returns-in_ok-topic_in-in-explain-clause-readable
-returns-in_ok-topic_in-in-explain-clause-readable c = tt
 
 pub returns-in_ok-get_str-in-sums-clause-readable : goal.returns-in_ok-get_str-in-sums-clause-readable
 returns-in_ok-get_str-in-sums-clause-readable c = tt
@@ -151,3 +132,12 @@ pub returns-in_default-clause-asked : goal.returns-in_default-clause-asked
 returns-in_default-clause-asked c = λ asked named.
     let others = c.in_default in
     no_word asked c.args.name.now (rows_of (found_of c.args.inner.now)) others.not-isin others.not-read others.not-play others.not-check others.not-explain others.not-serve others.not-holdings others.not-sums others.not-report others.not-journal others.not-drop named
+
+pub returns-in-explain-clause-asked : goal.returns-in-explain-clause-asked
+returns-in-explain-clause-asked c = λ asked named. same_answer asked c.args.name.now (found_of c.args.inner.now) _ c.in-explain.is c.quoted_in.ensures named
+
+pub returns-in-explain-clause-said : goal.returns-in-explain-clause-said
+returns-in-explain-clause-said c = said_answer c.args.name.now (found_of c.args.inner.now) _ c.in-explain.is c.quoted_in.ensures
+
+pub returns-in-explain-clause-readable : goal.returns-in-explain-clause-readable
+returns-in-explain-clause-readable c = tt

@@ -1,4 +1,5 @@
 use Rattle.desk_words.proofs.CatalogueLemmas.{command_told, entry_explained, fault_told, line_told, message_explained, name_told, one_meaning, text_told}
+use Rattle.desk_words.proofs.TopicLemmas.{word_explained}
 use Rattle.desk_words.proofs.laws.told_in_words.Goals as goal
 
 pub returns-clause-one_meaning : goal.returns-clause-one_meaning
@@ -24,3 +25,6 @@ returns-clause-lines c = line_told
 
 pub returns-clause-faults : goal.returns-clause-faults
 returns-clause-faults c = fault_told
+
+pub returns-clause-fields : goal.returns-clause-fields
+returns-clause-fields c = word_explained

@@ -1,0 +1,5 @@
+use Rattle.desk_words.proofs.WritingLemmas.{one_behind}
+use Rattle.desk_words.proofs.writing.write_one.Goals as goal
+
+pub returns-clause-written : goal.returns-clause-written
+returns-clause-written g c = one_behind _ _ _ _ _ c.write_detail.result c.in_ok-write_cause.ensures.written c.write_detail.ensures.written
