@@ -13,8 +13,8 @@ from lib.cases import cases_in, files_below
 from lib.part import TOP
 from lib.play import PATIENCE, difference, other_lines, ran, read
 
-# the file of a desk that commands make, and the folder of answers
-DESK = os.path.join(TOP, "day.db")
+# the files of desks that commands make, and the folder of answers
+DESKS = [os.path.join(TOP, it) for it in ("day.db", "new.db")]
 ANSWERS = os.path.join(TOP, "answers")
 
 
@@ -215,9 +215,9 @@ def faults(program, document, text):
 
 
 def remove_desk():
-    """Removes the file of a desk that commands make, and its log."""
+    """Removes the files of desks that commands make, and their logs."""
     shutil.rmtree(ANSWERS, ignore_errors=True)
-    for path in (DESK, f"{DESK}-wal"):
+    for path in (desk + end for desk in DESKS for end in ("", "-wal")):
         with contextlib.suppress(FileNotFoundError):
             os.remove(path)
 
@@ -227,8 +227,8 @@ def documents(program, *paths):
 
     A code block is indented by four spaces. Of one whose first line begins with `$ ` and has `./desk` each line that begins with
     `$ ` is a command, which runs in the clone's folder with the program in place of ./desk, and must print just the lines behind
-    it, with status 0 or 1. The file of a desk that they make, day.db, and the folder of answers, answers, are not there before the
-    first, and are removed behind the last. A block behind a paragraph that says "From `PATH`" and ends with a colon must stand in
+    it, with status 0 or 1. The files of desks that they make, day.db and new.db, and the folder of answers, answers, are not there
+    before the first, and are removed behind the last. A block behind a paragraph that says "From `PATH`" and ends with a colon must stand in
     that file, line for line. A table with a column 'Number' must have the number of each refusal and each fault that
     `PROGRAM explain` tells, once, and no other; and one with a column that begins with 'Refused with' no other. Each command, each
     such block and each such table counts. A document with a link that leads to no file, or to no heading, fails."""

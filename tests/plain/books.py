@@ -5,6 +5,7 @@ changes an earlier pair or settlement; all else is made anew from these whenever
 from collections import namedtuple
 
 from .entries import (
+    ONE_PASS,
     Account,
     Cancel,
     Instruct,
@@ -225,6 +226,11 @@ def waiting_pairs(history, pairs, settled, number):
     return sorted(due, key=lambda pair: (settlement_day(history, pair), pair.later))
 
 
+def comes_before(history, pair, other):
+    """Whether a pass tries a pair before another one."""
+    return (settlement_day(history, pair), pair.later) < (settlement_day(history, other), other.later)
+
+
 def settled_by_pass(history, pairs, settled):
     """What one pass of the run that is the last entry settles, after all that was settled before it."""
     number, before, in_it = len(history), history[:-1], []
@@ -234,8 +240,14 @@ def settled_by_pass(history, pairs, settled):
     return in_it
 
 
+def is_of_one_pass(entry):
+    return isinstance(entry, Run) and entry.rule == ONE_PASS
+
+
 def settled_by_last(history, pairs, settled):
-    """What the last entry settles: a run makes passes until one settles nothing."""
+    """What the last entry settles: a run makes passes until one settles nothing, but for one of one pass."""
+    if is_of_one_pass(history[-1]):
+        return settled_by_pass(history, pairs, settled)
     in_run = []
     if isinstance(history[-1], Run):
         while in_pass := settled_by_pass(history, pairs, settled + in_run):
@@ -260,11 +272,13 @@ def is_cancelled(books, number):
 
 def reason_of(books, pair):
     """Why a pair is not settled: what the last pass that tried it found. Such a pass settles nothing, so all is
-    settled before it that was settled by its run."""
+    settled before it that was settled by its run; but a run of one pass may have settled pairs behind it."""
     tried = [number for number, _ in numbered(books.history, Run) if is_due(books.history, pair, number)]
     if not tried:
         return FUTURE
     settled = [settlement for settlement in books.settled if settlement.run <= tried[-1]]
+    if is_of_one_pass(books.history[tried[-1] - 1]):
+        settled = [it for it in settled if it.run < tried[-1] or comes_before(books.history, it.pair, pair)]
     lack = lack_of(books.history[: tried[-1] - 1], settled, pair)
     if lack is None:
         raise AssertionError("a run left a pair that was covered")

@@ -5,6 +5,9 @@ from collections import namedtuple
 MOST_QUANTITY = 99_999_999_999_999
 MOST_PAID = 999_999_999_999_999_999
 
+# the rules of a run: one pass, as histories of earlier versions have it; or passes, as each command asks
+ONE_PASS, PASSES = 1, 2
+
 # the operator's
 Participant = namedtuple("Participant", "reference bic")
 Account = namedtuple("Account", "reference bic account")
@@ -13,7 +16,7 @@ Issue = namedtuple("Issue", "reference account isin quantity")
 Redeem = namedtuple("Redeem", "reference account isin quantity")
 PayIn = namedtuple("PayIn", "reference bic currency amount")
 PayOut = namedtuple("PayOut", "reference bic currency amount")
-Run = namedtuple("Run", "reference day")
+Run = namedtuple("Run", "reference day rule", defaults=[PASSES])
 
 # the participants', of which the message is an instruction or a cancellation
 Instruct = namedtuple("Instruct", "sender message")
@@ -29,8 +32,14 @@ def key_of(entry):
     return (entry.sender, entry.message.reference) if is_message(entry) else ("operator", entry.reference)
 
 
+def asked(entry):
+    """What an entry asks for: its rule a run does not."""
+    return entry._replace(rule=PASSES) if isinstance(entry, Run) else entry
+
+
 def ask_the_same(one, other):
     """Whether two entries ask for the same."""
+    one, other = asked(one), asked(other)
     return type(one) is type(other) and one == other
 
 

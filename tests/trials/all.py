@@ -4,10 +4,10 @@ broken, which must fail and say why."""
 import tempfile
 
 from . import cases, checks, connections, desk, disks, documents, edits, events, examples, folders, gate, helps, inputs
-from . import kills, layout, proofs, wrong_bodies
+from . import kills, layout, migrations, proofs, wrong_bodies
 
 MODULES = [gate, layout, proofs, checks, cases, folders, disks, examples, helps, documents, wrong_bodies, edits, desk, inputs]
-MODULES += [kills, connections, events]
+MODULES += [kills, migrations, connections, events]
 
 
 def tried():

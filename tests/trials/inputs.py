@@ -262,7 +262,7 @@ def trials_of_reports(room):
 
 def trials_of_files(room):
     """A program is let at files, of which one is not there."""
-    for name in "files", "files_days.py", "files_killed.py", "files_odd.py":
+    for name in "files", "files_days.py", "files_killed.py", "files_migrated.py", "files_odd.py":
         copy(f"tests/parts/{name}", room)
     for name in "generate", "plain":
         os.symlink(f"{TESTS}/{name}", f"{room}/tests/{name}")

@@ -3,6 +3,7 @@ mod OverFileLemmas
 mod OverviewLemmas
 mod PlayLemmas
 mod LeftLemmas
+mod MigrateLemmas
 mod ReportLemmas
 mod RunLemmas
 mod ExplainLemmas

@@ -5,13 +5,14 @@ use Rattle.desk.specs.CheckAnswer.{IsCheckAnswer}
 use Rattle.desk.specs.DropAnswer.{IsDropAnswer}
 use Rattle.desk.specs.ExplainAnswer.{IsExplainAnswer}
 use Rattle.desk.specs.IsinAnswer.{IsIsinAnswer}
+use Rattle.desk.specs.MigrateAnswer.{IsMigrateAnswer}
 use Rattle.desk.specs.OverviewAnswer.{IsFileOverviewAnswer, IsOverviewAnswer}
 use Rattle.desk.specs.PlayAnswer.{IsFilePlayAnswer, IsPlayAnswer}
 use Rattle.desk.specs.ReadAnswer.{IsReadAnswer}
 use Rattle.desk.specs.ReportAnswer.{IsReportAnswer, asked_for}
 use Rattle.desk.specs.ServeAnswer.{IsFileServeAnswer, IsServeAnswer}
 use Rattle.desk.specs.Status.{IsFailureTold, status_of_error}
-use Rattle.desk_words.specs.Words.{CallValue, isin, read, play, check, explain, serve, holdings, sums, folder, report, journal, IsErrorIn, IsSaidBy}
+use Rattle.desk_words.specs.Words.{CallValue, isin, read, play, check, explain, serve, holdings, sums, folder, report, journal, migrate, IsErrorIn, IsSaidBy}
 use Rattle.desk.specs.declared.answers.report.Shown.TheVariants.{Journal, Report}
 use Rattle.desk.specs.declared.status.Failure.TheVariants.{Memory}
 use Rattle.desk.specs.declared.status.Status.{Status}
@@ -29,6 +30,7 @@ IsCallAnswer (serve (Some db) port count) given IsUnread may_fail status IsPrint
 IsCallAnswer (holdings db bic account) given IsUnread may_fail status IsPrinted = IsUnread × IsReportAnswer (asked_for (Some bic) account) status IsPrinted
 IsCallAnswer (sums db) given IsUnread may_fail status IsPrinted = IsUnread × IsReportAnswer (asked_for None []) status IsPrinted
 IsCallAnswer (folder db from to) given IsUnread may_fail status IsPrinted = IsUnread × IsDropAnswer status IsPrinted
+IsCallAnswer (migrate old fresh) given IsUnread may_fail status IsPrinted = IsUnread × IsMigrateAnswer status IsPrinted
 IsCallAnswer (report None parts format) given IsUnread may_fail status IsPrinted = IsOverviewAnswer (Report parts) format given IsUnread may_fail status IsPrinted
 IsCallAnswer (report (Some db) parts format) given IsUnread may_fail status IsPrinted = IsUnread × IsFileOverviewAnswer (Report parts) format status IsPrinted
 IsCallAnswer (journal None from format) given IsUnread may_fail status IsPrinted = IsOverviewAnswer (Journal from) format given IsUnread may_fail status IsPrinted

@@ -7,6 +7,7 @@ pub mod Finding
 pub mod Input
 pub mod IsinAnswer
 pub mod Left
+pub mod MigrateAnswer
 pub mod OverFile
 pub mod OverviewAnswer
 pub mod PlayAnswer

@@ -140,7 +140,7 @@ fn write_through(rt: &HostRuntime, path: Path<'_>, bytes: &[u8]) -> io::Result<(
 }
 
 /// Removes what stands in the place of a new file, which may be one that was left, or a link, or a named pipe.
-fn make_way(rt: &HostRuntime, path: Path<'_>) -> io::Result<()> {
+pub fn make_way(rt: &HostRuntime, path: Path<'_>) -> io::Result<()> {
     match fs::symlink_metadata(rt, path) {
         Ok(_) => fs::remove_file(rt, path),
         Err(_) => Ok(()),

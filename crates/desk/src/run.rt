@@ -4,13 +4,14 @@ ghost use Rattle.std.specs.Io.KnownBytes.{Appends};
 ghost use Rattle.std.specs.IoError.{error_kind};
 ghost use Rattle.clap.specs.Words.{kind_of};
 ghost use Rattle.desk.specs.CallAnswer.{IsAnswer, IsCallAnswer, IsMemoryTold};
+ghost use Rattle.desk.specs.MigrateAnswer.{IsMigrateAnswer};
 ghost use Rattle.desk.specs.OverFile.{IsFileAnswer};
 ghost use Rattle.desk.specs.Status.{IsFailureTold, IsNoWordsTold, status_of_error};
 ghost use Rattle.desk_words.specs.Words.{CallValue, IsAskable, ReadsOnlyInstructions, value_of_call, words_for};
 
 use crate::answers::{
-    Folders, Shown, answer_check, answer_explain, answer_isin, answer_overview, answer_play,
-    answer_read, answer_serve,
+    Folders, Paths, Shown, answer_check, answer_explain, answer_isin, answer_overview, answer_play,
+    answer_read, answer_serve, migrate_file,
 };
 use crate::over_file::{Ask, Job, over_file};
 use crate::status::{Failure, Status, tell_failure};
@@ -60,7 +61,7 @@ fn answer_words<S: AsStr, R: Source, W: Sink>(
     ensures failed { OnErr result (W.may_fail ≡ true) }
 {
     match call_of(rt.alloc(), words) {
-        Ok(call) => answer(rt, call, reader, writer),
+        Ok(call) => answer(rt, &call, reader, writer),
         Err(error) => tell_error(&error, writer),
     }
 }
@@ -68,15 +69,15 @@ fn answer_words<S: AsStr, R: Source, W: Sink>(
 /// Answers a call on the writer.
 fn answer<R: Source, W: Sink>(
     rt: &HostRuntime,
-    call: Call<'_>,
+    call: &Call<'_>,
     reader: &mut R,
     writer: &mut W,
 ) -> io::Result<Status>
-    requires { ReadsOnlyInstructions call }
-    ensures told { IfOk result (λ status. IsCallAnswer (value_of_call call.entry) (R.remaining reader.old) (reader.new ≡ reader.old) R.may_fail status (Appends (W.contents writer.old) (W.contents writer.new))) }
+    requires { ReadsOnlyInstructions call.now }
+    ensures told { IfOk result (λ status. IsCallAnswer (value_of_call call.now) (R.remaining reader.old) (reader.new ≡ reader.old) R.may_fail status (Appends (W.contents writer.old) (W.contents writer.new))) }
     ensures failed { OnErr result (W.may_fail ≡ true) }
 {
-    match call {
+    match *call {
         Call::Isin(code) => answer_isin(code.as_bytes(), writer),
         Call::Read(mt) => answer_read(rt.alloc(), mt, reader, writer),
         Call::Play => answer_play(rt.alloc(), reader, writer),
@@ -114,6 +115,7 @@ fn answer<R: Source, W: Sink>(
             let job = Job::Show(Shown::Journal(from), format);
             over_real_file(rt, db, &job, reader, writer)
         }
+        Call::Migrate(old, new) => migrate_real_file(rt, Paths { old, new }, writer),
     }
 }
 
@@ -129,6 +131,18 @@ fn over_real_file<R: Source, W: Sink>(
     ensures failed { OnErr result (W.may_fail ≡ true) }
 {
     over_file(rt, path, Unknown, job, reader, writer).0
+}
+
+/// The same of a migration.
+fn migrate_real_file<W: Sink>(
+    rt: &HostRuntime,
+    paths: Paths<'_>,
+    writer: &mut W,
+) -> io::Result<Status>
+    ensures told { IfOk result (λ status. IsMigrateAnswer status (Appends (W.contents writer.old) (W.contents writer.new))) }
+    ensures failed { OnErr result (W.may_fail ≡ true) }
+{
+    migrate_file(rt, paths, Unknown, Unknown, writer).0
 }
 
 /// Prints help that was asked for, or what is wrong with the words; want of memory is a failure.

@@ -125,7 +125,7 @@ pub fn close_behind<D: Disk + Drop, W: Sink>(
 
 /// Closes the file of a desk: what its log holds goes into it, and the log is removed while nobody else can open the two, which are
 /// handed back. Where that fails their store is: a crash, or its end, leaves of them nothing else than it might have left before.
-fn close<D: Disk + Drop>(
+pub fn close<D: Disk + Drop>(
     rt: &HostRuntime,
     path: &str,
     conn: Connection<FileStore<D>>,
@@ -154,7 +154,7 @@ pub fn tell_unopened<W: Sink>(failure: Failure, writer: &mut W) -> io::Result<St
 }
 
 /// Removes the log of a file, which stands beside the file itself where the path is a link.
-fn remove_log(rt: &HostRuntime, path: &str) -> io::Result<()> {
+pub fn remove_log(rt: &HostRuntime, path: &str) -> io::Result<()> {
     let file = fs::canonicalize(rt, path)?;
     let log = format!(in rt.alloc(); "{}-wal", file.display())?;
     // one that holds something is that of another file, which came to stand at this path meanwhile

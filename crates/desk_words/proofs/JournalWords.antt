@@ -12,7 +12,7 @@ use Rattle.clap.proofs.WalkLemmas.{first_value-rows, one_text-rows}
 use Rattle.desk_words.proofs.NumberWords.{IsTaken, number_taken, plain_number}
 use Rattle.desk_words.proofs.ReportWords.{IsPlainFile, built_desk, is_no_flag, one_form, passes_stopped, plain_file, stops, takes_by}
 use Rattle.desk_words.proofs.WalkWords.{Walks, at, behind_option, behind_value, ends_well, found_at, goes, level, passes_value, stands, value_row, walks_value}
-use Rattle.desk_words.specs.Words.{CallValue, IsFormatOf, IsFrom, IsFromAskable, IsFromSpelledOut, IsNoOptionIn, IsSaid, IsSpelledOut, check, desk_app, explain, folder, holdings, isin, journal, journal_app, play, read, report, serve, sums, words_for, words_of_file, words_of_format}
+use Rattle.desk_words.specs.Words.{CallValue, IsFormatOf, IsFrom, IsFromAskable, IsFromSpelledOut, IsNoOptionIn, IsSaid, IsSpelledOut, check, desk_app, explain, folder, holdings, isin, journal, journal_app, migrate, play, read, report, serve, sums, words_for, words_of_file, words_of_format}
 use Rattle.desk_report.specs.declared.format.Format.{Format}
 use Rattle.desk_report.specs.declared.format.Format.TheVariants.{Json, Text}
 
@@ -197,6 +197,7 @@ module _ (asked : CallValue) (f : Found) where
       go (journal db from format) h =
           (db, from, format, refl, first_value-rows f (codes "db") ∙ h.1, number_named from h.2, subst (IsFormatOf format) (sym (one_text-rows f (codes "json"))) h.3)
       go (folder db from to) h = let bad : 106 ≡ 100 = ap (λ t. slice_index t 0) h.0 in absurd (omega (arith, bad))
+      go (migrate old fresh) h = let bad : 106 ≡ 109 = ap (λ t. slice_index t 0) h.0 in absurd (omega (arith, bad))
 
   pub no_journal : ((from : Option ℕ) → IsFromSpelledOut from (first_value f (codes "from")) (one_text f (codes "from")) → ⊥) → IsSpelledOut asked (codes "journal") (rows_of f) → ⊥
   unfolding IsJournalNamed

@@ -2,6 +2,7 @@ mod CatalogueLemmas
 mod ErrorLemmas
 pub mod WritingLemmas
 mod JournalWords
+mod MigrateWords
 mod NumberWords
 mod ParserLemmas
 mod PlainWords

@@ -26,11 +26,12 @@ use Rattle.desk_codes.specs.Bic.{IsBic, ReadsBic, party_of}
 use Rattle.desk_rules.proofs.PartLemmas.{bic_itself}
 use Rattle.desk_codes.specs.Characters.{IsCodeChar}
 use Rattle.desk_words.proofs.JournalWords.{enters_journal, takes_journal}
+use Rattle.desk_words.proofs.MigrateWords.{enters_migrate, takes_migrate}
 use Rattle.desk_words.proofs.NumberWords.{IsTaken, no_sign, number_taken, plain_number}
 use Rattle.desk_words.proofs.PlainWords.{IsPlain, no_dashes, no_long, no_short, plain_word}
 use Rattle.desk_words.proofs.ReportWords.{enters_report, enters_several, one_form, takes_report, takes_several}
 use Rattle.desk_words.proofs.WalkWords.{Walks, behind_option, behind_value, found_at, goes, level, passes_place, passes_value, stands, value_row, walks_place, walks_value}
-use Rattle.desk_words.specs.Words.{ArePartWords, ArePartsOf, CallValue, IsAskable, IsBicText, IsErrorIn, IsFormatOf, IsNoOption, IsNoOptionIn, IsSpelledOut, IsSaid, IsSaidBy, IsSaidIn, IsTypeText, value_of_call, desk_app, IsNumberText, answer_words_in, check, explain, holdings, isin, journal, part_words_in, parts_by, play, read, report, report_words, serve, sums, serve_app, words_for, drop_app, explain_app, folder, holdings_app, words_found}
+use Rattle.desk_words.specs.Words.{ArePartWords, ArePartsOf, CallValue, IsAskable, IsBicText, IsErrorIn, IsFormatOf, IsNoOption, IsNoOptionIn, IsSpelledOut, IsSaid, IsSaidBy, IsSaidIn, IsTypeText, value_of_call, desk_app, IsNumberText, answer_words_in, check, explain, holdings, isin, journal, part_words_in, parts_by, play, read, report, report_words, serve, sums, serve_app, words_for, drop_app, explain_app, folder, holdings_app, migrate, words_found}
 use Rattle.desk_report.specs.declared.part.Parts.{Parts}
 use Rattle.desk_report.specs.declared.format.Format.{Format}
 use Rattle.desk_words.specs.declared.calls.Call.{Call}
@@ -311,6 +312,7 @@ takes_asked program (sums db) is = takes_sums program db (plain_word db is)
 takes_asked program (report db parts format) is = takes_report program db parts format is.0
 takes_asked program (journal db from format) is = takes_journal program db from format is.0 is.1
 takes_asked program (folder db from to) is = takes_folder program db from to (plain_word db is.0) (plain_word from is.1) (plain_word to is.2)
+takes_asked program (migrate old fresh) is = takes_migrate program old fresh (plain_word old is.0) (plain_word fresh is.1)
 
 pub takes_nothing : (program : List ℕ) → takes desk_app (program ∷ []) ≡ true
 unfolding clap_on_literals
@@ -452,6 +454,7 @@ enters_asked program (sums db) is = enters_sums program db (plain_word db is)
 enters_asked program (report db parts format) is = enters_report program db parts format is.0 is.1
 enters_asked program (journal db from format) is = enters_journal program db from format is.0 is.1
 enters_asked program (folder db from to) is = enters_folder program db from to (plain_word db is.0) (plain_word from is.1) (plain_word to is.2)
+enters_asked program (migrate old fresh) is = enters_migrate program old fresh (plain_word old is.0) (plain_word fresh is.1)
 
 pub enters_nothing : (program : List ℕ) → subcommand_of desk_app (program ∷ []) ≡ None
 unfolding clap_on_literals
@@ -497,6 +500,7 @@ module _ (asked : CallValue) (name : List ℕ) (f : Found) where
       go (report db parts format) h = let bad : 114 ≡ 105 = ap (λ t. slice_index t 0) (sym h.0 ∙ is) in absurd (omega (arith, bad))
       go (journal db from format) h = let bad : 106 ≡ 105 = ap (λ t. slice_index t 0) (sym h.0 ∙ is) in absurd (omega (arith, bad))
       go (folder db from to) h = let bad : 100 ≡ 105 = ap (λ t. slice_index t 0) (sym h.0 ∙ is) in absurd (omega (arith, bad))
+      go (migrate old fresh) h = let bad : 109 ≡ 105 = ap (λ t. slice_index t 0) (sym h.0 ∙ is) in absurd (omega (arith, bad))
 
   named_read : name ≡ codes "read" → IsSpelledOut asked name (rows_of f) → (mt : Mt) × (asked ≡ read mt) × (one_text f (codes "mt") ≡ Some (digits_of_type mt)) × (is_instruction mt ≡ true)
   named_read is named = go asked named
@@ -513,6 +517,7 @@ module _ (asked : CallValue) (name : List ℕ) (f : Found) where
       go (report db parts format) h = let bad : 112 ≡ 97 = ap (λ t. slice_index t 2) (sym h.0 ∙ is) in absurd (omega (arith, bad))
       go (journal db from format) h = let bad : 106 ≡ 114 = ap (λ t. slice_index t 0) (sym h.0 ∙ is) in absurd (omega (arith, bad))
       go (folder db from to) h = let bad : 100 ≡ 114 = ap (λ t. slice_index t 0) (sym h.0 ∙ is) in absurd (omega (arith, bad))
+      go (migrate old fresh) h = let bad : 109 ≡ 114 = ap (λ t. slice_index t 0) (sym h.0 ∙ is) in absurd (omega (arith, bad))
 
   named_play : name ≡ codes "play" → IsSpelledOut asked name (rows_of f) → (db : Option (List ℕ)) × (asked ≡ play db) × (first_value f (codes "db") ≡ db)
   named_play is named = go asked named
@@ -529,6 +534,7 @@ module _ (asked : CallValue) (name : List ℕ) (f : Found) where
       go (report db parts format) h = let bad : 114 ≡ 112 = ap (λ t. slice_index t 0) (sym h.0 ∙ is) in absurd (omega (arith, bad))
       go (journal db from format) h = let bad : 106 ≡ 112 = ap (λ t. slice_index t 0) (sym h.0 ∙ is) in absurd (omega (arith, bad))
       go (folder db from to) h = let bad : 100 ≡ 112 = ap (λ t. slice_index t 0) (sym h.0 ∙ is) in absurd (omega (arith, bad))
+      go (migrate old fresh) h = let bad : 109 ≡ 112 = ap (λ t. slice_index t 0) (sym h.0 ∙ is) in absurd (omega (arith, bad))
 
   named_explain : name ≡ codes "explain" → IsSpelledOut asked name (rows_of f) → (words : List (List ℕ)) × (asked ≡ explain words) × (words ≡ answer_words_in (rows_of f))
   named_explain is named = go asked named
@@ -545,6 +551,7 @@ module _ (asked : CallValue) (name : List ℕ) (f : Found) where
       go (report db parts format) h = let bad : 114 ≡ 101 = ap (λ t. slice_index t 0) (sym h.0 ∙ is) in absurd (omega (arith, bad))
       go (journal db from format) h = let bad : 106 ≡ 101 = ap (λ t. slice_index t 0) (sym h.0 ∙ is) in absurd (omega (arith, bad))
       go (folder db from to) h = let bad : 100 ≡ 101 = ap (λ t. slice_index t 0) (sym h.0 ∙ is) in absurd (omega (arith, bad))
+      go (migrate old fresh) h = let bad : 109 ≡ 101 = ap (λ t. slice_index t 0) (sym h.0 ∙ is) in absurd (omega (arith, bad))
 
   -- the words that the getters give are those of the rows
   given_words : words_found (first_value f (codes "word")) (first_value f (codes "second")) (first_value f (codes "third")) ≡ answer_words_in (rows_of f)
@@ -569,6 +576,7 @@ module _ (asked : CallValue) (name : List ℕ) (f : Found) where
       go (report db parts format) h = let bad : 114 ≡ 115 = ap (λ t. slice_index t 0) (sym h.0 ∙ is) in absurd (omega (arith, bad))
       go (journal db from format) h = let bad : 106 ≡ 115 = ap (λ t. slice_index t 0) (sym h.0 ∙ is) in absurd (omega (arith, bad))
       go (folder db from to) h = let bad : 100 ≡ 115 = ap (λ t. slice_index t 0) (sym h.0 ∙ is) in absurd (omega (arith, bad))
+      go (migrate old fresh) h = let bad : 109 ≡ 115 = ap (λ t. slice_index t 0) (sym h.0 ∙ is) in absurd (omega (arith, bad))
 
   pub no_service : name ≡ codes "serve"
       → ((port count : ℕ) → port < 2 ^ 16 → one_text f (codes "port") ≡ Some (decimal port) → count < 2 ^ 32 → one_text f (codes "count") ≡ Some (decimal count) → ⊥)
@@ -599,6 +607,7 @@ module _ (asked : CallValue) (name : List ℕ) (f : Found) where
       go (report db parts format) h = let bad : 114 ≡ 104 = ap (λ t. slice_index t 0) (sym h.0 ∙ is) in absurd (omega (arith, bad))
       go (journal db from format) h = let bad : 106 ≡ 104 = ap (λ t. slice_index t 0) (sym h.0 ∙ is) in absurd (omega (arith, bad))
       go (folder db from to) h = let bad : 100 ≡ 104 = ap (λ t. slice_index t 0) (sym h.0 ∙ is) in absurd (omega (arith, bad))
+      go (migrate old fresh) h = let bad : 109 ≡ 104 = ap (λ t. slice_index t 0) (sym h.0 ∙ is) in absurd (omega (arith, bad))
 
   named_sums : name ≡ codes "sums" → IsSpelledOut asked name (rows_of f) → (db : List ℕ) × (asked ≡ sums db) × (first_value f (codes "db") ≡ Some db)
   named_sums is named = go asked named
@@ -615,6 +624,7 @@ module _ (asked : CallValue) (name : List ℕ) (f : Found) where
       go (report db parts format) h = let bad : 114 ≡ 115 = ap (λ t. slice_index t 0) (sym h.0 ∙ is) in absurd (omega (arith, bad))
       go (journal db from format) h = let bad : 106 ≡ 115 = ap (λ t. slice_index t 0) (sym h.0 ∙ is) in absurd (omega (arith, bad))
       go (folder db from to) h = let bad : 100 ≡ 115 = ap (λ t. slice_index t 0) (sym h.0 ∙ is) in absurd (omega (arith, bad))
+      go (migrate old fresh) h = let bad : 109 ≡ 115 = ap (λ t. slice_index t 0) (sym h.0 ∙ is) in absurd (omega (arith, bad))
 
   named_folder : name ≡ codes "drop" → IsSpelledOut asked name (rows_of f)
       → (db : List ℕ) × (from : List ℕ) × (to : List ℕ) × (asked ≡ folder db from to) × (first_value f (codes "db") ≡ Some db) × (first_value f (codes "in") ≡ Some from) × (first_value f (codes "out") ≡ Some to)
@@ -633,6 +643,7 @@ module _ (asked : CallValue) (name : List ℕ) (f : Found) where
       go (report db parts format) h = let bad : 114 ≡ 100 = ap (λ t. slice_index t 0) (sym h.0 ∙ is) in absurd (omega (arith, bad))
       go (journal db from format) h = let bad : 106 ≡ 100 = ap (λ t. slice_index t 0) (sym h.0 ∙ is) in absurd (omega (arith, bad))
       go (folder db from to) h = (db, from, to, refl, first_value-rows f (codes "db") ∙ h.1, first_value-rows f (codes "in") ∙ h.2, first_value-rows f (codes "out") ∙ h.3)
+      go (migrate old fresh) h = let bad : 109 ≡ 100 = ap (λ t. slice_index t 0) (sym h.0 ∙ is) in absurd (omega (arith, bad))
 
   -- the words of `report`: a file or none, the parts and the form
   IsReportNamed : CallValue → Type 0
@@ -656,6 +667,7 @@ module _ (asked : CallValue) (name : List ℕ) (f : Found) where
           (db, parts, format, refl, first_value-rows f (codes "db") ∙ h.1, h.2, subst (IsFormatOf format) (sym (one_text-rows f (codes "json"))) h.3)
       go (journal db from format) h = let bad : 106 ≡ 114 = ap (λ t. slice_index t 0) (sym h.0 ∙ is) in absurd (omega (arith, bad))
       go (folder db from to) h = let bad : 100 ≡ 114 = ap (λ t. slice_index t 0) (sym h.0 ∙ is) in absurd (omega (arith, bad))
+      go (migrate old fresh) h = let bad : 109 ≡ 114 = ap (λ t. slice_index t 0) (sym h.0 ∙ is) in absurd (omega (arith, bad))
 
   pub no_report : name ≡ codes "report" → ((parts : Parts) → ArePartsOf parts (part_words_in (rows_of f)) → ⊥) → IsSpelledOut asked name (rows_of f) → ⊥
   unfolding IsReportNamed
@@ -722,22 +734,24 @@ same_check asked name rows is spelled = go asked spelled
     go (report db parts format) h = let bad : 114 ≡ 99 = ap (λ t. slice_index t 0) (sym h.0 ∙ is) in absurd (omega (arith, bad))
     go (journal db from format) h = let bad : 106 ≡ 99 = ap (λ t. slice_index t 0) (sym h.0 ∙ is) in absurd (omega (arith, bad))
     go (folder db from to) h = let bad : 100 ≡ 99 = ap (λ t. slice_index t 0) (sym h.0 ∙ is) in absurd (omega (arith, bad))
+    go (migrate old fresh) h = let bad : 109 ≡ 99 = ap (λ t. slice_index t 0) (sym h.0 ∙ is) in absurd (omega (arith, bad))
 
 -- nothing is asked for by another word
 pub no_word : (asked : CallValue) (name : List ℕ) (rows : List Row)
-    → (name ≡ codes "isin" → ⊥) → (name ≡ codes "read" → ⊥) → (name ≡ codes "play" → ⊥) → (name ≡ codes "check" → ⊥) → (name ≡ codes "explain" → ⊥) → (name ≡ codes "serve" → ⊥) → (name ≡ codes "holdings" → ⊥) → (name ≡ codes "sums" → ⊥) → (name ≡ codes "report" → ⊥) → (name ≡ codes "journal" → ⊥) → (name ≡ codes "drop" → ⊥)
+    → (name ≡ codes "isin" → ⊥) → (name ≡ codes "read" → ⊥) → (name ≡ codes "play" → ⊥) → (name ≡ codes "check" → ⊥) → (name ≡ codes "explain" → ⊥) → (name ≡ codes "serve" → ⊥) → (name ≡ codes "holdings" → ⊥) → (name ≡ codes "sums" → ⊥) → (name ≡ codes "report" → ⊥) → (name ≡ codes "journal" → ⊥) → (name ≡ codes "drop" → ⊥) → (name ≡ codes "migrate" → ⊥)
     → IsSpelledOut asked name rows → ⊥
-no_word (isin code) name rows other _ _ _ _ _ _ _ _ _ _ named = other named.0
-no_word (read mt) name rows _ other _ _ _ _ _ _ _ _ _ named = other named.0
-no_word (play db) name rows _ _ other _ _ _ _ _ _ _ _ named = other named.0
-no_word check name rows _ _ _ other _ _ _ _ _ _ _ named = other named
-no_word (explain words) name rows _ _ _ _ other _ _ _ _ _ _ named = other named.0
-no_word (serve db port count) name rows _ _ _ _ _ other _ _ _ _ _ named = other named.0
-no_word (holdings db bic account) name rows _ _ _ _ _ _ other _ _ _ _ named = other named.0
-no_word (sums db) name rows _ _ _ _ _ _ _ other _ _ _ named = other named.0
-no_word (report db parts format) name rows _ _ _ _ _ _ _ _ other _ _ named = other named.0
-no_word (journal db from format) name rows _ _ _ _ _ _ _ _ _ other _ named = other named.0
-no_word (folder db from to) name rows _ _ _ _ _ _ _ _ _ _ other named = other named.0
+no_word (isin code) name rows other _ _ _ _ _ _ _ _ _ _ _ named = other named.0
+no_word (read mt) name rows _ other _ _ _ _ _ _ _ _ _ _ named = other named.0
+no_word (play db) name rows _ _ other _ _ _ _ _ _ _ _ _ named = other named.0
+no_word check name rows _ _ _ other _ _ _ _ _ _ _ _ named = other named
+no_word (explain words) name rows _ _ _ _ other _ _ _ _ _ _ _ named = other named.0
+no_word (serve db port count) name rows _ _ _ _ _ other _ _ _ _ _ _ named = other named.0
+no_word (holdings db bic account) name rows _ _ _ _ _ _ other _ _ _ _ _ named = other named.0
+no_word (sums db) name rows _ _ _ _ _ _ _ other _ _ _ _ named = other named.0
+no_word (report db parts format) name rows _ _ _ _ _ _ _ _ other _ _ _ named = other named.0
+no_word (journal db from format) name rows _ _ _ _ _ _ _ _ _ other _ _ named = other named.0
+no_word (folder db from to) name rows _ _ _ _ _ _ _ _ _ _ other _ named = other named.0
+no_word (migrate old fresh) name rows _ _ _ _ _ _ _ _ _ _ _ other named = other named.0
 
 -- what the words of `holdings` name
 pub held_by : (asked : CallValue) (f : Found) → IsSpelledOut asked (codes "holdings") (rows_of f)

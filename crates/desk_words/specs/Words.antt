@@ -16,12 +16,13 @@ use Rattle.desk_report.specs.declared.format.Format.{Format}
 use Rattle.desk_report.specs.declared.format.Format.TheVariants.{Json, Text}
 use Rattle.desk_words.specs.declared.calls.Call.{Call}
 use Rattle.desk_words.specs.Topics.{words_quoted}
-use Rattle.desk_words.specs.declared.calls.Call.TheVariants.{Isin, Read, Play, PlayOn, Check, Explain, Serve, ServeOn, Holdings, Sums, Report, ReportOn, Journal, JournalOn, Folder}
+use Rattle.desk_words.specs.declared.calls.Call.TheVariants.{Isin, Read, Play, PlayOn, Check, Explain, Serve, ServeOn, Holdings, Sums, Report, ReportOn, Journal, JournalOn, Folder, Migrate}
 
 -- what is asked for: whether a code is an ISIN, what a message of a type says, a script's answers, what is refused in
 -- a script, what an answer of these words means, to serve so many connections at a port, what a participant's account holds,
 -- the totals, what stands at this moment, the accepted entries from a number on, or all of them, or the answers to the
--- files of a folder; of the desk of a file, or of one in memory where no file is named
+-- files of a folder; of the desk of a file, or of one in memory where no file is named; or to bring a file of an earlier
+-- version over into a new one
 pub data CallValue : Type 0 where
   isin : (code : List ℕ) → CallValue
   read : (mt : Mt) → CallValue
@@ -34,6 +35,7 @@ pub data CallValue : Type 0 where
   report : (db : Option (List ℕ)) (parts : Parts) (format : Format) → CallValue
   journal : (db : Option (List ℕ)) (from : Option ℕ) (format : Format) → CallValue
   folder : (db from to : List ℕ) → CallValue
+  migrate : (old fresh : List ℕ) → CallValue
 
 abbrev pub value_of_call : Call → CallValue
 value_of_call (Isin code) = isin code.now
@@ -51,6 +53,7 @@ value_of_call (ReportOn db parts format) = report (Some db.now) parts format
 value_of_call (Journal from format) = journal None from format
 value_of_call (JournalOn db from format) = journal (Some db.now) from format
 value_of_call (Folder db from to) = folder db.now from.now to.now
+value_of_call (Migrate old fresh) = migrate old.now fresh.now
 
 -- a message that is read is an instruction
 abbrev pub ReadsOnlyInstructions : Call → Type 0
@@ -141,6 +144,7 @@ words_for (sums db) = codes "sums" ∷ words_of_file (Some db) []
 words_for (report db parts format) = report_words db format (words_of_parts parts)
 words_for (journal db from format) = codes "journal" ∷ words_of_file db (words_of_number from (words_of_format format []))
 words_for (folder db from to) = codes "drop" ∷ words_of_file (Some db) (codes "--in" ∷ from ∷ codes "--out" ∷ to ∷ [])
+words_for (migrate old fresh) = codes "migrate" ∷ old ∷ fresh ∷ []
 
 -- what does not begin as an option, by a hyphen
 abbrev pub IsNoOption : List ℕ → Type 0
@@ -160,7 +164,7 @@ abbrev pub IsFromAskable : Option ℕ → Type 0
 IsFromAskable None = Unit {0}
 IsFromAskable (Some number) = (1 ≤ number) × (number ≤ 999999999)
 
--- The code, the file, the account, the folders and the words of an answer (three at most) do not begin as an option, the type is one of an instruction, the participant is one in its
+-- The code, the files, the account, the folders and the words of an answer (three at most) do not begin as an option, the type is one of an instruction, the participant is one in its
 -- one spelling, the numbers are those that may be asked for, and of a report some part is told.
 abbrev pub IsAskable : CallValue → Type 0
 IsAskable (isin code) = IsNoOption code
@@ -174,6 +178,7 @@ IsAskable (sums db) = IsNoOption db
 IsAskable (report db parts format) = IsNoOptionIn db × TellsSome parts
 IsAskable (journal db from format) = IsNoOptionIn db × IsFromAskable from
 IsAskable (folder db from to) = IsNoOption db × IsNoOption from × IsNoOption to
+IsAskable (migrate old fresh) = IsNoOption old × IsNoOption fresh
 
 -- the words that were found for the parts of a report
 abbrev pub part_words_in : List Row → List (List ℕ)
@@ -213,6 +218,7 @@ IsSpelledOut (journal db from format) name rows =
     (name ≡ codes "journal") × (first_of (codes "db") rows ≡ db) × IsFromSpelledOut from (first_of (codes "from") rows) (one_of (codes "from") rows) × IsFormatOf format (one_of (codes "json") rows)
 IsSpelledOut (folder db from to) name rows =
     (name ≡ codes "drop") × (first_of (codes "db") rows ≡ Some db) × (first_of (codes "in") rows ≡ Some from) × (first_of (codes "out") rows ≡ Some to)
+IsSpelledOut (migrate old fresh) name rows = (name ≡ codes "migrate") × (first_of (codes "old") rows ≡ Some old) × (first_of (codes "new") rows ≡ Some fresh)
 
 -- what the parser of words knows of the program
 abbrev pub code_rule : Rule
@@ -291,14 +297,23 @@ out_rule = record (new_rule (codes "out")) { long = Some (codes "out"); value_na
 abbrev pub drop_app : App
 drop_app = with_rule (with_rule (with_rule (new_app (codes "drop")) needed_db_rule) in_rule) out_rule
 
+abbrev pub old_rule : Rule
+old_rule = record (new_rule (codes "old")) { value_names = 1; required = true }
+
+abbrev pub new_file_rule : Rule
+new_file_rule = record (new_rule (codes "new")) { value_names = 1; required = true }
+
+abbrev pub migrate_app : App
+migrate_app = with_rule (with_rule (new_app (codes "migrate")) old_rule) new_file_rule
+
 -- the program, which tells its version
 abbrev pub bare_app : App
 bare_app = record (new_app (codes "desk")) { top = record (new_app (codes "desk")).top { has_version = true } }
 
 abbrev pub desk_app : App
 desk_app =
-    with_subcommand (with_subcommand (with_subcommand (with_subcommand (with_subcommand (with_subcommand (with_subcommand (with_subcommand (with_subcommand (with_subcommand (with_subcommand bare_app isin_app.top) read_app.top) play_app.top) check_app.top) explain_app.top) serve_app.top) holdings_app.top)
-    sums_app.top) report_app.top) journal_app.top) drop_app.top
+    with_subcommand (with_subcommand (with_subcommand (with_subcommand (with_subcommand (with_subcommand (with_subcommand (with_subcommand (with_subcommand (with_subcommand (with_subcommand (with_subcommand bare_app isin_app.top) read_app.top) play_app.top) check_app.top) explain_app.top) serve_app.top) holdings_app.top)
+    sums_app.top) report_app.top) journal_app.top) drop_app.top) migrate_app.top
 
 -- a numeral of a number; a plus and zeros may stand before it
 abbrev pub IsNumberText : ℕ → List ℕ → Type 0
@@ -334,6 +349,7 @@ IsSaid (report db parts format) name rows =
 IsSaid (journal db from format) name rows =
     (name ≡ codes "journal") × (first_of (codes "db") rows ≡ db) × IsFrom from (first_of (codes "from") rows) (one_of (codes "from") rows) × IsFormatOf format (one_of (codes "json") rows)
 IsSaid (folder db from to) name rows = (name ≡ codes "drop") × (first_of (codes "db") rows ≡ Some db) × (first_of (codes "in") rows ≡ Some from) × (first_of (codes "out") rows ≡ Some to)
+IsSaid (migrate old fresh) name rows = (name ≡ codes "migrate") × (first_of (codes "old") rows ≡ Some old) × (first_of (codes "new") rows ≡ Some fresh)
 
 -- what is said where this subcommand was found; with none, to play on a desk in memory
 abbrev pub IsSaidIn : CallValue → Option (List ℕ × List Row) → Type 0

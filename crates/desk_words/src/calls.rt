@@ -55,6 +55,8 @@ pub enum Call<'a> {
     JournalOn(&'a str, Option<u32>, Format),
     /// The answers to the files of a folder, on the desk of a file: that file, the folder, and the one of the answers
     Folder(&'a str, &'a str, &'a str),
+    /// The history of a file of an earlier version, in a new file: that file, and the new one
+    Migrate(&'a str, &'a str),
 }
 
 /// What is served.
@@ -136,6 +138,7 @@ fn subcommand_call<'a>(name: &str, inner: &ArgMatches<'a>) -> Option<Call<'a>>
         "report" => report_call(inner),
         "journal" => journal_call(inner),
         "drop" => folder_call(inner),
+        "migrate" => migrate_call(inner),
         _ => None,
     }
 }
@@ -331,6 +334,18 @@ fn folder_call<'a>(inner: &ArgMatches<'a>) -> Option<Call<'a>>
     let from = inner.get_str("in")?;
     let to = inner.get_str("out")?;
     Some(Call::Folder(db, from, to))
+}
+
+/// A file of an earlier version, and the new one.
+fn migrate_call<'a>(inner: &ArgMatches<'a>) -> Option<Call<'a>>
+    ensures readable { IfSome result ReadsOnlyInstructions }
+    ensures said { IfSome result (λ call. IsSaid (value_of_call call) (codes "migrate") (rows_of (found_of inner.now))) }
+    ensures asked { (asked : CallValue) → IsSpelledOut asked (codes "migrate") (rows_of (found_of inner.now))
+        → IsSomeAnd result (λ call. value_of_call call ≡ asked) }
+{
+    let old = inner.get_str("old")?;
+    let new = inner.get_str("new")?;
+    Some(Call::Migrate(old, new))
 }
 
 /// The type of an instruction by its number.

@@ -177,7 +177,7 @@ pub const CAUSES: [Cause; 37] = [
     (
         51,
         "the tables of the file are of another version",
-        "Open it by the program of that version.",
+        "Bring one of version 1 or 2 into a new file by desk migrate, which takes no other; open one of version 3 as it is, and any other by the program of its version.",
     ),
     (
         60,

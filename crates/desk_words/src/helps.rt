@@ -185,3 +185,17 @@ error. With --db as in `desk play --db`.
 
 Example:
   ./desk drop --db day.db --in examples/folder --out answers";
+
+/// Of `desk migrate`
+pub const MIGRATE: &str = "\
+OLD is a desk's file of version 1 or 2, which other subcommands answer with `fault 51`. Its tables are compared
+with its entries, and it stays as it is. NEW gets the same entries, all at once, each with its reply, so that
+positions, cash and messages are the same; a run of one pass stays one. It prints `migrated N`, N being how many
+entries there are.
+NEW must not be there, or hold no bytes: else it is `fault 50`, and stays as it is. It is `fault 50` too where
+there is no OLD, or it is none of a desk's, and `fault 51` where it is of another version; standard error says
+of which of the two. Where a run was killed there is no NEW, and it is run again: what it left, NEW-unfinished,
+goes then.
+
+Example:
+  ./desk migrate examples/earlier.db new.db";

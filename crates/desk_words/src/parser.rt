@@ -6,8 +6,8 @@ ghost use Rattle.desk_words.specs.Parser.{app_told, named_rule, rule_told, with_
 ghost use Rattle.desk_words.specs.Words.{bare_app, desk_app};
 
 use crate::helps::{
-    CHECK, DROP, EXPLAIN, HOLDINGS, ISIN, JOURNAL, PLAY, PROGRAM, READ, REPORT, SERVE, SUMS,
-    VERSION,
+    CHECK, DROP, EXPLAIN, HOLDINGS, ISIN, JOURNAL, MIGRATE, PLAY, PROGRAM, READ, REPORT, SERVE,
+    SUMS, VERSION,
 };
 use clap::builder::ValueParser;
 use clap::{Arg, ArgAction, Command};
@@ -53,7 +53,7 @@ pub struct Subcommand<'a> {
 }
 
 /// The subcommands, in the order of the help.
-const SUBCOMMANDS: [Subcommand<'static>; 11] = [
+const SUBCOMMANDS: [Subcommand<'static>; 12] = [
     Subcommand {
         name: "isin",
         about: "Checks the identification number of a security",
@@ -238,6 +238,29 @@ const SUBCOMMANDS: [Subcommand<'static>; 11] = [
                 is_needed: true,
                 value: "DIR",
                 help: "The folder of the answers, which is there",
+                range: None,
+            },
+        ],
+    },
+    Subcommand {
+        name: "migrate",
+        about: "Brings the desk of a file of an earlier version over into a new file",
+        after: MIGRATE,
+        arguments: &[
+            Argument {
+                name: "old",
+                form: Form::Place,
+                is_needed: true,
+                value: "OLD",
+                help: "The file of version 1 or 2, which stays as it is",
+                range: None,
+            },
+            Argument {
+                name: "new",
+                form: Form::Place,
+                is_needed: true,
+                value: "NEW",
+                help: "The desk's new file, where there is none",
                 range: None,
             },
         ],

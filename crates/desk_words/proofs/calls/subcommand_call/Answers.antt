@@ -68,6 +68,12 @@ returns-in-drop-clause-said c = subst (λ n. IfSome c.folder_call.result (λ cal
 pub returns-in-drop-clause-asked : goal.returns-in-drop-clause-asked
 returns-in-drop-clause-asked c = λ asked named. c.folder_call.ensures.asked asked (subst (λ n. IsSpelledOut asked n (rows_of (found_of c.args.inner.now))) c.in-drop.is named)
 
+pub returns-in-migrate-clause-said : goal.returns-in-migrate-clause-said
+returns-in-migrate-clause-said c = subst (λ n. IfSome c.migrate_call.result (λ call. IsSaid (value_of_call call) n (rows_of (found_of c.args.inner.now)))) (sym c.in-migrate.is) c.migrate_call.ensures.said
+
+pub returns-in-migrate-clause-asked : goal.returns-in-migrate-clause-asked
+returns-in-migrate-clause-asked c = λ asked named. c.migrate_call.ensures.asked asked (subst (λ n. IsSpelledOut asked n (rows_of (found_of c.args.inner.now))) c.in-migrate.is named)
+
 pub returns-in_err-get_str-in-isin-clause-readable : goal.returns-in_err-get_str-in-isin-clause-readable
 returns-in_err-get_str-in-isin-clause-readable c = none_said c.from_residual.result _ c.from_residual.ensures
 
@@ -122,6 +128,9 @@ returns-in-journal-clause-readable c = c.journal_call.ensures.readable
 pub returns-in-drop-clause-readable : goal.returns-in-drop-clause-readable
 returns-in-drop-clause-readable c = c.folder_call.ensures.readable
 
+pub returns-in-migrate-clause-readable : goal.returns-in-migrate-clause-readable
+returns-in-migrate-clause-readable c = c.migrate_call.ensures.readable
+
 pub returns-in-check-clause-said : goal.returns-in-check-clause-said
 returns-in-check-clause-said c = c.in-check.is
 
@@ -131,7 +140,7 @@ returns-in-check-clause-asked c = λ asked named. same_check asked c.args.name.n
 pub returns-in_default-clause-asked : goal.returns-in_default-clause-asked
 returns-in_default-clause-asked c = λ asked named.
     let others = c.in_default in
-    no_word asked c.args.name.now (rows_of (found_of c.args.inner.now)) others.not-isin others.not-read others.not-play others.not-check others.not-explain others.not-serve others.not-holdings others.not-sums others.not-report others.not-journal others.not-drop named
+    no_word asked c.args.name.now (rows_of (found_of c.args.inner.now)) others.not-isin others.not-read others.not-play others.not-check others.not-explain others.not-serve others.not-holdings others.not-sums others.not-report others.not-journal others.not-drop others.not-migrate named
 
 pub returns-in-explain-clause-asked : goal.returns-in-explain-clause-asked
 returns-in-explain-clause-asked c = λ asked named. same_answer asked c.args.name.now (found_of c.args.inner.now) _ c.in-explain.is c.quoted_in.ensures named

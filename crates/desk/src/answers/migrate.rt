@@ -1,0 +1,399 @@
+//! `desk migrate`.
+ghost use Rattle.std.specs.Prelude.{◌≡◌, true, false, length, IfErr, IfOk, IfSome, IsSomeAnd, OnErr, OnOk};
+ghost use Rattle.std.specs.Io.KnownBytes.{Appends};
+ghost use Rattle.sqlite.specs.Files.{over_files};
+ghost use Rattle.sqlite.specs.Held.{state};
+ghost use Rattle.sqlite_wal.specs.Files.{image_at};
+ghost use Rattle.desk_rules.specs.Verdict.{WasAccepted};
+ghost use Rattle.desk_old.specs.Old.{AreHistory};
+ghost use Rattle.desk_rules.specs.declared.limits.TheConstants.{MOST_ENTRIES};
+ghost use Rattle.desk_register.specs.declared.register.Stage.TheVariants.{Idle};
+ghost use Rattle.desk_engine.specs.Ready.{IsReady};
+ghost use Rattle.desk_engine.specs.Rebuilt.{HoldsEntries};
+ghost use Rattle.desk_file.specs.Opened.{IsOpened, IsReadyFor, view_of_both};
+ghost use Rattle.desk.specs.Closed.{AreClosed};
+ghost use Rattle.desk.specs.MigrateAnswer.{HoldHistory, IsMigrateAnswer, IsMigrated, IsRead, SayHistory, migrated_line};
+ghost use Rattle.desk.specs.Status.{IsOpeningFailure};
+
+use crate::folders::make_way;
+use crate::status::{Failure, Status, tell_failure};
+use crate::store::{FileRegister, close, connection_of, remove_log};
+use crate::teller::Teller;
+use desk_engine::{Failure as Undoing, rebuild};
+use desk_file::{Difference, MirroredRegister, OpenFault, Silent, open_file};
+use desk_old::old_entries;
+use desk_register::{Fault, Register};
+use desk_rules::{Entry, MOST_ENTRIES};
+use desk_streams::Sink;
+use memory_register::ListRegister;
+use sql_register::SqlRegister;
+use sqlite::{Alter, Connection, FileFrom, FileStore, Files, Start};
+use sqlite_disk::Disk;
+use std::alloc::Global;
+use std::path::Path;
+use std::rt::HostRuntime;
+use std::{fs, io};
+
+/// A new file is made under its name with this behind it, until it is whole.
+const UNFINISHED: &str = "-unfinished";
+
+/// The two files of a migration.
+#[derive(Clone, Copy)]
+pub struct Paths<'a> {
+    pub old: &'a str,
+    pub new: &'a str,
+}
+
+/// What is behind a migration that was done.
+#[derive(Drop)]
+pub struct Migrated<A: Disk, B: Disk> {
+    /// The entries of the history
+    pub entries: Vec<Entry>,
+    /// The store of the old file, which was read alone
+    pub read: FileStore<A>,
+    /// What was made of it
+    pub made: Made<B>,
+}
+
+/// A file that was made.
+#[derive(Drop)]
+pub struct Made<D: Disk> {
+    /// What was closed of it, or its store where that could not be
+    pub files: Result<Files<D>, FileStore<D>>,
+}
+
+/// Brings the history of a file of an earlier version over into a new file, and tells how many entries it has. Standard error says
+/// of which file a fault is told. What was read and what was made is handed back, where the new file stands at its name. `held` and
+/// `start` stand for what the old file holds, and for what the new one's place does, as at `open_file`.
+pub fn migrate_file<A: Start, B: Start, W: Sink>(
+    rt: &HostRuntime,
+    paths: Paths<'_>,
+    held: A,
+    start: B,
+    writer: &mut W,
+) -> (
+    io::Result<Status>,
+    Option<Migrated<FileFrom<A>, FileFrom<B>>>,
+)
+    ensures migrated { IfSome result.1 (IsMigrated (image_at A.Start)) }
+    ensures told { IfOk result.0 (λ status. IsMigrateAnswer status (Appends (W.contents writer.old) (W.contents writer.new))) }
+    ensures count { IfOk result.0 (λ status. status ≡ Status.Done → IsSomeAnd result.1 (λ it. Appends (W.contents writer.old) (W.contents writer.new) (migrated_line (length it.entries.items)))) }
+    ensures failed { OnErr result.0 (W.may_fail ≡ true) }
+{
+    match read_and_put(rt, paths, held, start) {
+        Ok(it) => (tell_count(it.entries.len(), writer), Some(it)),
+        Err(failure) => (tell_failure(failure, writer), None),
+    }
+}
+
+/// Tells how many entries there are.
+fn tell_count<W: Sink>(count: usize, writer: &mut W) -> io::Result<Status>
+    ensures told { IfOk result (λ status. (status ≡ Status.Done) × Appends (W.contents writer.old) (W.contents writer.new) (migrated_line count)) }
+    ensures failed { OnErr result (W.may_fail ≡ true) }
+{
+    writer.put_text(format_args!("migrated {count}\n"))?;
+    Ok(Status::Done)
+}
+
+/// The history of the old file, read and put into the new one.
+fn read_and_put<A: Start, B: Start>(
+    rt: &HostRuntime,
+    paths: Paths<'_>,
+    held: A,
+    start: B,
+) -> Result<Migrated<FileFrom<A>, FileFrom<B>>, Failure>
+    ensures migrated { IfOk result (IsMigrated (image_at A.Start)) }
+    ensures failure { IfErr result IsOpeningFailure }
+{
+    let (entries, read) = read_alone(rt, paths.old, held)?;
+    match put_new(rt, paths.new, start, &entries) {
+        Ok(made) => Ok(Migrated {
+            entries,
+            read,
+            made,
+        }),
+        Err(failure) => Err(failure),
+    }
+}
+
+/// The same as `read_old`, with no log beside the old file where there was none: one that holds nothing comes where a file is opened.
+fn read_alone<A: Start>(
+    rt: &HostRuntime,
+    path: &str,
+    held: A,
+) -> Result<(Vec<Entry>, FileStore<FileFrom<A>>), Failure>
+    ensures accepted { IfOk result (λ it. AreHistory it.0.items) }
+    ensures which { IfOk result (λ it. IsRead (image_at A.Start) it.0.items it.1) }
+    ensures failure { IfErr result IsOpeningFailure }
+{
+    let had_log = has_log(rt, path);
+    let read = read_old(rt, path, held);
+    if !had_log {
+        let _ = remove_log(rt, path);
+    }
+    read
+}
+
+/// Whether a log stands beside a file; where that cannot be seen, it counts as one.
+fn has_log(rt: &HostRuntime, path: &str) -> bool {
+    match format!(in rt.alloc(); "{path}-wal") {
+        Ok(log) => fs::exists(rt, log.as_str()).unwrap_or(true),
+        Err(_) => true,
+    }
+}
+
+/// The entries of the history of the old file, and its store, in which nothing was written.
+fn read_old<A: Start>(
+    rt: &HostRuntime,
+    path: &str,
+    held: A,
+) -> Result<(Vec<Entry>, FileStore<FileFrom<A>>), Failure>
+    ensures accepted { IfOk result (λ it. AreHistory it.0.items) }
+    ensures which { IfOk result (λ it. IsRead (image_at A.Start) it.0.items it.1) }
+    ensures failure { IfErr result IsOpeningFailure }
+{
+    if let Err(failure) = look_at_old(rt, path) {
+        return Err(failure);
+    }
+    let mut teller = Teller::new(rt, path);
+    match old_entries(rt, path, held, &mut teller) {
+        Ok(found) => Ok(found),
+        Err((fault, left)) => {
+            teller.unopened(fault, left.is_some());
+            Err(Failure::from(fault))
+        }
+    }
+}
+
+/// Whether there is an old file: where none is, or one of no bytes, an opening would make one.
+fn look_at_old(rt: &HostRuntime, path: &str) -> Result<(), Failure>
+    ensures { IfErr result IsOpeningFailure }
+{
+    match holds_bytes(rt, path) {
+        Ok(true) => Ok(()),
+        Ok(false) => {
+            let failure = Failure::from(OpenFault::NotOurFile(Difference::NoDatabase));
+            tell_failed(
+                rt,
+                path,
+                failure,
+                "there is no such file, or it holds nothing",
+            );
+            Err(failure)
+        }
+        Err(error) => {
+            let failure = failure_of(&error);
+            tell_failed(rt, path, failure, "");
+            Err(failure)
+        }
+    }
+}
+
+/// Puts a history into a new file. Where it cannot, standard error says why.
+fn put_new<B: Start>(
+    rt: &HostRuntime,
+    path: &str,
+    start: B,
+    entries: &[Entry],
+) -> Result<Made<FileFrom<B>>, Failure>
+    requires accepted { AreHistory entries.now }
+    ensures holds { IfOk result (λ made. HoldHistory made.files entries.now) }
+    ensures failure { IfErr result IsOpeningFailure }
+{
+    match made_file(rt, path, start, entries) {
+        Ok(made) => Ok(made),
+        Err(failure) => {
+            tell_failed(rt, path, failure, "it is there already, or a log beside it");
+            Err(failure)
+        }
+    }
+}
+
+/// Tells why a file is not read, or not made; `difference` says why it is none that may be.
+fn tell_failed(rt: &HostRuntime, path: &str, failure: Failure, difference: &str) {
+    let fault = match failure {
+        Failure::Memory => OpenFault::Memory,
+        Failure::NotOurFile => {
+            let _ = eprintln!(rt; "desk: {path}: fault 50: {difference}");
+            return;
+        }
+        _ => OpenFault::Storage,
+    };
+    Teller::new(rt, path).unopened(fault, false);
+}
+
+/// Makes a new file of a history under another name, and renames it once it is whole and closed: so it stands at its name whole, or
+/// not at all.
+fn made_file<B: Start>(
+    rt: &HostRuntime,
+    path: &str,
+    start: B,
+    entries: &[Entry],
+) -> Result<Made<FileFrom<B>>, Failure>
+    requires accepted { AreHistory entries.now }
+    ensures holds { IfOk result (λ made. HoldHistory made.files entries.now) }
+    ensures failure { IfErr result IsOpeningFailure }
+{
+    let unfinished = free_place(rt, path)?;
+    let made = filled_file(rt, unfinished.as_str(), start, entries)?;
+    match fs::rename(rt, unfinished.as_str(), path) {
+        Ok(()) => Ok(made),
+        Err(error) => Err(failure_of(&error)),
+    }
+}
+
+/// The path at which a new file is made. Where a file that holds something stands at its own, or a log beside it, there is none.
+fn free_place(rt: &HostRuntime, path: &str) -> Result<String, Failure>
+    ensures { IfErr result IsOpeningFailure }
+{
+    match is_taken(rt, path) {
+        Ok(true) => return Err(Failure::NotOurFile),
+        Ok(false) => {}
+        Err(error) => return Err(failure_of(&error)),
+    }
+    match cleared_place(rt, path) {
+        Ok(unfinished) => Ok(unfinished),
+        Err(error) => Err(failure_of(&error)),
+    }
+}
+
+/// Whether a file that holds something stands at a path, or a log beside it.
+fn is_taken(rt: &HostRuntime, path: &str) -> io::Result<bool> {
+    let log = format!(in rt.alloc(); "{path}-wal")?;
+    Ok(holds_bytes(rt, path)? || holds_bytes(rt, log.as_str())?)
+}
+
+/// Whether a file that holds something stands at a path.
+fn holds_bytes(rt: &HostRuntime, path: &str) -> io::Result<bool> {
+    match fs::metadata(rt, path) {
+        Ok(found) => Ok(found.len() > 0),
+        Err(error) if error.kind() == io::ErrorKind::NotFound => Ok(false),
+        Err(error) => Err(error),
+    }
+}
+
+/// The path at which a new file is made, once what a killed run left there is removed.
+fn cleared_place(rt: &HostRuntime, path: &str) -> io::Result<String> {
+    let unfinished = format!(in rt.alloc(); "{path}{UNFINISHED}")?;
+    let log = format!(in rt.alloc(); "{path}{UNFINISHED}-wal")?;
+    make_way(rt, Path::new(unfinished.as_str()))?;
+    make_way(rt, Path::new(log.as_str()))?;
+    Ok(unfinished)
+}
+
+/// What is told of a file that cannot be made.
+fn failure_of(error: &io::Error) -> Failure
+    ensures { IsOpeningFailure result }
+{
+    match error.kind() {
+        io::ErrorKind::OutOfMemory => Failure::Memory,
+        _ => Failure::Storage,
+    }
+}
+
+/// Makes a file of a history at a path, and closes it.
+fn filled_file<B: Start>(
+    rt: &HostRuntime,
+    path: &str,
+    start: B,
+    entries: &[Entry],
+) -> Result<Made<FileFrom<B>>, Failure>
+    requires accepted { AreHistory entries.now }
+    ensures holds { IfOk result (λ made. HoldHistory made.files entries.now) }
+    ensures failure { IfErr result IsOpeningFailure }
+{
+    match open_file(rt, path, start, MOST_ENTRIES, &mut Silent) {
+        Ok(both) => fill_and_close(rt, path, both, entries),
+        Err((fault, _)) => Err(Failure::from(fault)),
+    }
+}
+
+/// Puts a history into the file of a desk that was opened, and closes it.
+fn fill_and_close<D: Disk + Drop>(
+    rt: &HostRuntime,
+    path: &str,
+    both: FileRegister<D>,
+    entries: &[Entry],
+) -> Result<Made<D>, Failure>
+    requires ready { IsReadyFor MOST_ENTRIES (view_of_both over_files both) }
+    requires accepted { AreHistory entries.now }
+    ensures holds { IfOk result (λ made. HoldHistory made.files entries.now) }
+    ensures failure { IfErr result IsOpeningFailure }
+{
+    let (filled, conn) = fill(rt.alloc(), both, entries);
+    match filled {
+        Ok(()) => close_made(rt, path, conn),
+        Err(failure) => {
+            close_unfilled(rt, path, conn);
+            Err(failure)
+        }
+    }
+}
+
+/// Closes a file into which a history could not be put.
+fn close_unfilled<D: Disk + Drop>(rt: &HostRuntime, path: &str, conn: Connection<FileStore<D>>) {
+    match close(rt, path, conn) {
+        Ok(_files) => {}
+        Err(_store) => {}
+    }
+}
+
+/// Closes a file that was made.
+fn close_made<D: Disk + Drop>(
+    rt: &HostRuntime,
+    path: &str,
+    conn: Connection<FileStore<D>>,
+) -> Result<Made<D>, Failure>
+    ensures closed { IfOk result (λ made. IfOk made.files (AreClosed conn)) }
+    ensures failure { IfErr result IsOpeningFailure }
+{
+    match close(rt, path, conn) {
+        Ok(files) => Ok(Made { files: Ok(files) }),
+        Err(_store) => Err(Failure::Storage),
+    }
+}
+
+/// Puts a history into the tables of a desk that holds nothing, whose connection is given back.
+fn fill<S: Alter + Drop>(
+    alloc: Global,
+    both: MirroredRegister<ListRegister, SqlRegister<S>>,
+    entries: &[Entry],
+) -> (Result<(), Failure>, Connection<S>)
+    requires ready { IsReadyFor MOST_ENTRIES (view_of_both S.Store both) }
+    requires accepted { AreHistory entries.now }
+    ensures says { OnOk result.0 (SayHistory (state S.Store result.1) entries.now) }
+    ensures failure { IfErr result.0 IsOpeningFailure }
+{
+    let mut both = both;
+    let filled = put_all(alloc, &mut both, entries);
+    (filled, connection_of(both))
+}
+
+/// Puts a history into a register that holds nothing.
+fn put_all<R: Register>(alloc: Global, register: &mut R, entries: &[Entry]) -> Result<(), Failure>
+    requires ready { IsReady false (R.view register.old) }
+    requires accepted { WasAccepted (R.view register.old).room entries.now }
+    ensures stage { OnOk result ((R.view register.new).stage ≡ Idle) }
+    ensures holds { (R.view register.new).is_honest → OnOk result (HoldsEntries (R.view register.old).room entries.now (R.view register.new).content) }
+    ensures failure { IfErr result IsOpeningFailure }
+{
+    match register.count(alloc) {
+        Ok(0) => {}
+        Ok(_) => return Err(Failure::NotOurFile),
+        Err(fault) => return Err(failure_at(Undoing::Undone(fault))),
+    }
+    match rebuild(alloc, entries, register) {
+        Ok(()) => Ok(()),
+        Err(failure) => Err(failure_at(failure)),
+    }
+}
+
+/// What is told where a history cannot be put into a register, which is given up then.
+fn failure_at(failure: Undoing) -> Failure
+    ensures { IsOpeningFailure result }
+{
+    match failure {
+        Undoing::Undone(Fault::Memory) => Failure::Memory,
+        Undoing::Undone(Fault::Storage) | Undoing::Lost => Failure::Storage,
+    }
+}
