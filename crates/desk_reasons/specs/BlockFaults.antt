@@ -1,9 +1,9 @@
 -- Why a text is no block, by its lines.
 use Rattle.std.specs.Prelude.{ℕ, ◌+◌, ◌-◌, nat_lt, Bool, not, ◌&&◌, ◌||◌, ◌==◌, List, [], ◌∷◌, ◌++◌, length, take, drop, get_or, codes, if◌then◌else◌}
-use Rattle.std.specs.List.{prefix_len}
+use Rattle.std.specs.List.{list_all, prefix_len}
 use Rattle.std.specs.Str.{byte, bytes_eq}
 use Rattle.desk_text.specs.Lines.{lines_of}
-use Rattle.desk_text.specs.BlockGrammar.{is_printable, is_name, is_tag}
+use Rattle.desk_text.specs.BlockGrammar.{is_printable, is_digit, is_name, is_tag}
 use Rattle.desk_reasons.specs.declared.reasons.BlockReason.{BlockReason}
 use Rattle.desk_reasons.specs.declared.reasons.BlockReason.TheVariants as blocks
 use Rattle.desk_reasons.specs.declared.reasons.LineReason.{LineReason}
@@ -26,6 +26,7 @@ block_reason text =
     if is_empty text then blocks.Empty
     else if begins_so text (239 ∷ 187 ∷ 191 ∷ []) then blocks.ByteOrderMark
     else if begins_earlier text then blocks.EarlierBlock
+    else if begins_so (line_at 1 text) (codes "{4:\r") then blocks.ReturnAlone
     else if not (stands_in (byte "\n") text) then blocks.NoLineFeed
     else if bytes_eq (line_at 1 text) (codes "{4:") then blocks.CutOff
     else blocks.FirstLine
@@ -43,6 +44,10 @@ odd_place line = prefix_len is_printable line
 abbrev pub has_tag_of : ℕ → List ℕ → Bool
 has_tag_of count line = is_tag (take count (drop 1 line)) && begins_so (drop (count + 1) line) (codes ":")
 
+-- a line with a tag of two digits and a letter in lower case between colons
+abbrev pub has_lower_tag : List ℕ → Bool
+has_lower_tag line = list_all is_digit (take 2 (drop 1 line)) && has_lower_case (take 1 (drop 3 line)) && begins_so (drop 4 line) (codes ":")
+
 -- a line that opens or closes a sequence
 abbrev pub is_bracket : List ℕ → Bool
 is_bracket line = begins_so line (codes ":16R:") || begins_so line (codes ":16S:")
@@ -52,7 +57,7 @@ abbrev pub colon_reason : List ℕ → LineReason
 colon_reason line =
     if is_bracket line then (if is_name (drop 5 line) then lines.Other else lines.Name)
     else if has_tag_of 2 line || has_tag_of 3 line then lines.Other
-    else if has_lower_case (take 1 (drop 3 line)) && begins_so (drop 4 line) (codes ":") then lines.LowerCaseTag
+    else if has_lower_tag line then lines.LowerCaseTag
     else lines.Tag
 
 -- why a line of printable characters may not stand there: the first of the table that holds

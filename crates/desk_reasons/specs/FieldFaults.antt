@@ -1,7 +1,7 @@
 -- Where the fields of a block fail, and why.
 use Rattle.std.specs.Prelude.{◌≡◌, ℕ, ◌<◌, Bool, ◌&&◌, ◌||◌, ◌==◌, nat_eq, List, [], ◌∷◌, length, take, drop, get_or, Some, None, find, if◌then◌else◌}
 use Rattle.std.specs.List.{list_any, starts_with}
-use Rattle.std.specs.Str.{bytes_eq}
+use Rattle.std.specs.Str.{bytes_eq, str_eq_ignore_ascii_case}
 use Rattle.std.specs.Cmp.Lexicographic.{pointwise}
 use Rattle.desk_text.specs.Fields.{Found}
 use Rattle.desk_msg.specs.declared.fault.Word.{Word}
@@ -13,7 +13,7 @@ use Rattle.desk_reasons.specs.declared.reasons.Reason.{Reason}
 use Rattle.desk_reasons.specs.declared.reasons.Reason.TheVariants.{Missing, Repeated, Value, OtherFunction}
 use Rattle.desk_reasons.specs.declared.reasons.MissingReason.{MissingReason}
 use Rattle.desk_reasons.specs.declared.reasons.MissingReason.TheVariants.{OtherOption, OneColon, LowerCaseQualifier, OtherSequence, Absent}
-use Rattle.desk_reasons.specs.Characters.{begins_so, has_lower_case}
+use Rattle.desk_reasons.specs.Characters.{begins_so}
 use Rattle.desk_reasons.specs.Rows.{row_of}
 use Rattle.desk_reasons.specs.Values.{IsValueReason}
 
@@ -36,16 +36,16 @@ is_other_option word field = has_digits word field && value_fits word field && s
 abbrev pub is_elsewhere : Word → Found → Bool
 is_elsewhere word field = list_any (bytes_eq field.tag) (row_of word).tags && value_fits word field
 
--- in its place with its tag, but with a qualifier that is spelled otherwise: behind one colon in place of two, or with a letter in lower case
+-- in its place with its tag, but with a qualifier that is spelled otherwise: behind one colon in place of two, or its own but for letters in lower case
 abbrev pub has_one_colon : Word → Found → Bool
 has_one_colon word field = starts_with nat_eq (first_value field.values) (drop 1 (row_of word).begins)
 
-abbrev pub has_lower_qualifier : Found → Bool
-has_lower_qualifier field = has_lower_case (take 6 (first_value field.values))
+abbrev pub has_lower_qualifier : Word → Found → Bool
+has_lower_qualifier word field = str_eq_ignore_ascii_case (take 6 (first_value field.values)) (row_of word).begins
 
 abbrev pub is_misspelt : Word → Found → Bool
 is_misspelt word field =
-    list_any (bytes_eq field.tag) (row_of word).tags && stands_there word field && (has_one_colon word field || has_lower_qualifier field)
+    list_any (bytes_eq field.tag) (row_of word).tags && stands_there word field && (has_one_colon word field || has_lower_qualifier word field)
 
 abbrev pub spelling_reason : Word → Found → MissingReason
 spelling_reason word field = if has_one_colon word field then OneColon else LowerCaseQualifier

@@ -53,8 +53,9 @@ byte_words byte =
 
 abbrev pub block_words : BlockReason → List ℕ
 block_words blocks.Empty = codes "the text is empty"
-block_words blocks.ByteOrderMark = codes "a byte order mark stands before {4:"
-block_words blocks.EarlierBlock = codes "a block 1, 2 or 3 stands before block 4"
+block_words blocks.ByteOrderMark = codes "the text begins with a byte order mark"
+block_words blocks.EarlierBlock = codes "the text begins with a block 1, 2 or 3"
+block_words blocks.ReturnAlone = codes "a carriage return without line feed stands behind {4:"
 block_words blocks.NoLineFeed = codes "the text has no line feed"
 block_words blocks.FirstLine = codes "the first line is not {4:"
 block_words blocks.CutOff = codes "the text ends before its -}"
@@ -66,7 +67,7 @@ line_words lines.BehindEnd = codes "something stands behind -}"
 line_words lines.Hyphen = codes "the line begins with a hyphen"
 line_words lines.Name = codes "the name of the sequence is not 1 to 16 capitals or digits"
 line_words lines.LowerCaseTag = codes "the letter of the tag is in lower case"
-line_words lines.Tag = codes "no tag of two digits and a letter stands between colons"
+line_words lines.Tag = codes "no tag of two digits and a letter stands between the first two colons"
 line_words lines.Blank = codes "the line is empty, and no value goes on here"
 line_words lines.NoValue = codes "no value goes on here"
 line_words lines.Other = codes "the line may not stand here"
@@ -81,18 +82,18 @@ abbrev pub missing_words : MissingReason → List ℕ
 missing_words (missings.OtherOption more) = codes "it stands here with an option that is not read: "
 missing_words missings.OneColon = codes "one colon stands before its qualifier, where two must"
 missing_words missings.LowerCaseQualifier = codes "its qualifier has a letter in lower case"
-missing_words missings.OtherSequence = codes "it stands here, in another sequence"
+missing_words missings.OtherSequence = codes "it stands here, and not in its own sequence"
 missing_words missings.Absent = codes "it stands nowhere"
 
 abbrev pub shape_words : ShapeReason → List ℕ
 shape_words shapes.Empty = codes "the number is missing"
 shape_words shapes.Space = codes "a space stands in the number"
 shape_words shapes.Sign = codes "the number has a sign"
-shape_words shapes.Point = codes "a point stands for the comma"
-shape_words shapes.Thousands = codes "a point stands in the number beside its comma"
+shape_words shapes.Point = codes "a point stands in the number, and no comma"
+shape_words shapes.Thousands = codes "a point stands in the number, and a comma too"
 shape_words shapes.NotDigit = codes "a character of the number is neither digit nor comma"
 shape_words shapes.NoComma = codes "the number has no comma"
-shape_words shapes.NoWhole = codes "no digit stands before the comma"
+shape_words shapes.NoWhole = codes "the number begins with a comma"
 shape_words shapes.TwoCommas = codes "the number has more than one comma"
 shape_words shapes.Other = codes "the number does not fit"
 
@@ -105,7 +106,7 @@ number_words numbers.Other = codes "the number does not fit"
 
 abbrev pub currency_words : CurrencyReason → List ℕ
 currency_words currencies.Negative = codes "N, the sign of a negative amount, stands before the currency"
-currency_words currencies.LowerCase = codes "the currency has a letter in lower case"
+currency_words currencies.LowerCase = codes "a letter in lower case stands where the currency must"
 currency_words currencies.NoCurrency = codes "the amount does not begin with a currency of three letters"
 currency_words currencies.Unknown = codes "the currency is none of these:"
 
@@ -114,8 +115,8 @@ amount_words (amounts.Currency reason) = currency_words reason
 amount_words (amounts.Number reason) = number_words reason
 
 abbrev pub kind_words : KindReason → List ℕ
-kind_words kinds.LowerCase = codes "the code before the number has a letter in lower case"
-kind_words kinds.NoSlash = codes "no slash stands between the code and the number"
+kind_words kinds.LowerCase = codes "a letter in lower case stands where UNIT or FAMT must"
+kind_words kinds.NoSlash = codes "no slash stands directly behind UNIT or FAMT"
 kind_words kinds.Unknown = codes "the quantity begins with neither UNIT/ nor FAMT/"
 
 abbrev pub quantity_words : QuantityReason → List ℕ
@@ -123,7 +124,7 @@ quantity_words (quantities.Kind reason) = kind_words reason
 quantity_words (quantities.Number reason) = number_words reason
 
 abbrev pub isin_words : CodeFault → List ℕ
-isin_words faults.Length = codes "the ISIN has not twelve characters"
+isin_words faults.Length = codes "not twelve characters stand in the first line behind ISIN and a space"
 isin_words faults.Prefix = codes "the ISIN does not begin with two letters"
 isin_words faults.Body = codes "the ISIN has a character that is no letter and no digit"
 isin_words (faults.Check more) = codes "the check digit of the ISIN should be "
@@ -131,17 +132,17 @@ isin_words faults.Shape = codes "the ISIN does not fit"
 
 abbrev pub security_words : SecurityReason → List ℕ
 security_words securities.NoIsin = codes "the first line does not begin with ISIN and a space"
-security_words securities.LowerCase = codes "the ISIN has a letter in lower case"
+security_words securities.LowerCase = codes "a letter in lower case stands in the first line behind ISIN and a space"
 security_words (securities.Isin fault) = isin_words fault
 security_words securities.Other = codes "the security does not fit"
 
 abbrev pub bic_words : CodeFault → List ℕ
-bic_words faults.Length = codes "the BIC has not 8 or 11 characters"
+bic_words faults.Length = codes "not 8 or 11 characters stand behind the two slashes"
 bic_words faults.Shape = codes "a character of the BIC may not stand in its place"
 bic_words fault = codes "the BIC does not fit"
 
 abbrev pub party_words : PartyReason → List ℕ
-party_words parties.LowerCase = codes "the BIC has a letter in lower case"
+party_words parties.LowerCase = codes "a letter in lower case stands behind the two slashes"
 party_words (parties.Bic fault) = bic_words fault
 party_words parties.Other = codes "the party does not fit"
 
@@ -163,12 +164,12 @@ reference_words references.TwoSlashes = codes "two slashes stand together in the
 reference_words references.Other = codes "the reference does not fit"
 
 abbrev pub settlement_words : SettlementReason → List ℕ
-settlement_words settlements.LowerCase = codes "the type of settlement has a letter in lower case"
-settlement_words settlements.NoSlash = codes "two slashes must stand behind the qualifier"
-settlement_words settlements.Other = codes "four letters or digits must stand behind the slash"
+settlement_words settlements.LowerCase = codes "a letter in lower case stands behind SETR"
+settlement_words settlements.NoSlash = codes "one slash stands behind SETR, where two must"
+settlement_words settlements.Other = codes "its form is neither //TRAD nor /ISSUER/TRAD, with one to eight capitals or digits for ISSUER and four for TRAD"
 
 abbrev pub function_words : FunctionReason → List ℕ
-function_words functions.LowerCase = codes "the function has a letter in lower case"
+function_words functions.LowerCase = codes "a letter in lower case stands in the value"
 function_words functions.Other = codes "the function has not the form NEWM or NEWM/CODE"
 
 abbrev pub value_words : ValueReason → List ℕ

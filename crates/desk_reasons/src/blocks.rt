@@ -1,8 +1,8 @@
 //! Why a text is no block, by its lines.
 ghost use Rattle.std.specs.Prelude.{◌≡◌, ◌≤◌, OnOk, IfOk};
-ghost use Rattle.desk_reasons.specs.BlockFaults.{begins_earlier, block_reason, block_line, odd_place, has_tag_of, is_bracket, colon_reason, line_reason, opened_by, opened_before, nesting_reason, printable_reason, line_at};
+ghost use Rattle.desk_reasons.specs.BlockFaults.{begins_earlier, block_reason, block_line, odd_place, has_tag_of, has_lower_tag, is_bracket, colon_reason, line_reason, opened_by, opened_before, nesting_reason, printable_reason, line_at};
 
-use crate::characters::{begins_so, front_of, has_lower_case, rest_of, stands_in};
+use crate::characters::{are_digits, begins_so, front_of, has_lower_case, rest_of, stands_in};
 use crate::lines::{count_lines, line_at, next_line};
 use crate::reasons::{BlockReason, LineReason, NestingReason};
 use desk_text::{is_name, is_tag};
@@ -27,6 +27,9 @@ pub fn block_reason(text: &[u8]) -> BlockReason
     }
     if begins_earlier(text) {
         return BlockReason::EarlierBlock;
+    }
+    if begins_so(line_at(1, text), b"{4:\r") {
+        return BlockReason::ReturnAlone;
     }
     if !stands_in(b'\n', text) {
         return BlockReason::NoLineFeed;
@@ -67,6 +70,15 @@ fn has_tag_of(count: usize, line: &[u8]) -> bool
     is_tag(front_of(rest_of(line, 1), count)) && begins_so(rest_of(line, count + 1), b":")
 }
 
+/// Whether a line has a tag of two digits and a letter in lower case between colons.
+fn has_lower_tag(line: &[u8]) -> bool
+    ensures { result ≡ has_lower_tag line.now }
+{
+    are_digits(front_of(rest_of(line, 1), 2))
+        && has_lower_case(front_of(rest_of(line, 3), 1))
+        && begins_so(rest_of(line, 4), b":")
+}
+
 /// Whether a line opens or closes a sequence.
 fn is_bracket(line: &[u8]) -> bool
     ensures { result ≡ is_bracket line.now }
@@ -88,7 +100,7 @@ fn colon_reason(line: &[u8]) -> LineReason
     if has_tag_of(2, line) || has_tag_of(3, line) {
         return LineReason::Other;
     }
-    if has_lower_case(front_of(rest_of(line, 3), 1)) && begins_so(rest_of(line, 4), b":") {
+    if has_lower_tag(line) {
         return LineReason::LowerCaseTag;
     }
     LineReason::Tag

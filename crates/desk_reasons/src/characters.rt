@@ -1,6 +1,8 @@
 //! What is looked for in a text, and its parts.
 ghost use Rattle.std.specs.Prelude.{◌≡◌, ◌++◌, ◌∷◌, take, drop};
-ghost use Rattle.std.specs.List.{starts_with};
+ghost use Rattle.std.specs.List.{list_all, starts_with};
+ghost use Rattle.std.specs.Str.{str_eq_ignore_ascii_case};
+ghost use Rattle.desk_text.specs.BlockGrammar.{is_digit};
 ghost use Rattle.desk_reasons.specs.Characters.{stands_in, has_lower_case, begins_so, ends_so, has_slashes, behind_first};
 
 use desk_codes::split_at;
@@ -19,6 +21,13 @@ pub fn has_lower_case(text: &[u8]) -> bool
     text.iter().any(|c| *c >= b'a' && *c <= b'z')
 }
 
+/// Whether each character is a digit.
+pub fn are_digits(text: &[u8]) -> bool
+    ensures { result ≡ list_all is_digit text.now }
+{
+    text.iter().all(|c| c.is_ascii_digit())
+}
+
 /// Whether a text begins so.
 pub fn begins_so(text: &[u8], front: &[u8]) -> bool
     ensures { result ≡ begins_so text.now front.now }
@@ -31,6 +40,13 @@ pub fn ends_so(text: &[u8], end: &[u8]) -> bool
     ensures { result ≡ ends_so text.now end.now }
 {
     text.ends_with(end)
+}
+
+/// Whether two texts are the same once their letters are in lower case.
+pub fn is_same_but_for_case(text: &[u8], other: &[u8]) -> bool
+    ensures { result ≡ str_eq_ignore_ascii_case text.now other.now }
+{
+    text.eq_ignore_ascii_case(other)
 }
 
 /// Whether two slashes stand together.

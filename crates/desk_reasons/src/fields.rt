@@ -8,7 +8,7 @@ ghost use Rattle.desk_msg.specs.Reads.{belonging, first_value};
 ghost use Rattle.desk_reasons.specs.Rows.{row_of};
 ghost use Rattle.desk_reasons.specs.FieldFaults.{has_digits, is_other_option, has_one_colon, has_lower_qualifier, is_misspelt, spelling_reason, is_elsewhere, IsMissing, TellsFields, FailsSo};
 
-use crate::characters::{begins_so, front_of, has_lower_case, rest_of};
+use crate::characters::{begins_so, front_of, is_same_but_for_case, rest_of};
 use crate::reasons::{MissingReason, Reason};
 use crate::rows::{
     begins_of, has_tag, is_same_path, next_belonging, path_of, tags_of, value_begins,
@@ -64,13 +64,14 @@ fn has_one_colon(field: &Field, word: Word) -> bool
     value_begins(field, rest_of(begins_of(word), 1))
 }
 
-/// Whether a lower case letter stands where a field's qualifier stands.
-fn has_lower_qualifier(field: &Field) -> bool
-    ensures { result ≡ has_lower_qualifier (found_of field.now) }
+/// Whether a field's value begins as a word's, but for letters in lower case.
+fn has_lower_qualifier(field: &Field, word: Word) -> bool
+    ensures { result ≡ has_lower_qualifier word (found_of field.now) }
 {
+    let begins = begins_of(word);
     match field.values.first() {
-        Some(line) => has_lower_case(front_of(line, 6)),
-        None => false,
+        Some(line) => is_same_but_for_case(front_of(line, 6), begins),
+        None => begins.is_empty(),
     }
 }
 
@@ -80,7 +81,7 @@ fn is_misspelt(field: &Field, word: Word) -> bool
 {
     has_tag(tags_of(word), field.tag)
         && is_same_path(&field.path, path_of(word))
-        && (has_one_colon(field, word) || has_lower_qualifier(field))
+        && (has_one_colon(field, word) || has_lower_qualifier(field, word))
 }
 
 /// How its qualifier is spelled.

@@ -33,6 +33,8 @@ pub enum BlockReason {
     ByteOrderMark,
     /// It begins with a block 1, 2 or 3.
     EarlierBlock,
+    /// Behind the `{4:` that it begins with stands a carriage return without line feed.
+    ReturnAlone,
     /// It has no line feed.
     NoLineFeed,
     /// Its first line is another than `{4:`.
@@ -54,9 +56,9 @@ pub enum LineReason {
     Hyphen,
     /// The name behind 16R or 16S is not 1 to 16 capital letters or digits.
     Name,
-    /// The letter of its tag is in lower case.
+    /// It begins with a tag of two digits and a letter in lower case between colons.
     LowerCaseTag,
-    /// It begins with a colon, and has no tag between two.
+    /// It begins with a colon, and has no tag between that and the next.
     Tag,
     /// It is empty, where no value goes on.
     Blank,
@@ -86,9 +88,9 @@ pub enum MissingReason {
     OtherOption(u8),
     /// In its sequences stands its tag with its qualifier behind one colon.
     OneColon,
-    /// In its sequences stands its tag with a qualifier that has a letter in lower case.
+    /// In its sequences stands its tag with its qualifier, of which a letter is in lower case.
     LowerCaseQualifier,
-    /// It stands in other sequences.
+    /// It stands in other sequences, or in none.
     OtherSequence,
     /// It stands nowhere.
     Absent,
@@ -139,9 +141,9 @@ pub enum AmountReason {
 pub enum CurrencyReason {
     /// N stands before a currency: the sign of a negative amount.
     Negative,
-    /// A letter of it is in lower case.
+    /// Of its first three characters one is a letter in lower case.
     LowerCase,
-    /// It has not three capital letters.
+    /// It does not begin with three capital letters.
     NoCurrency,
     /// Its three capital letters are no currency of the desk.
     Unknown,
@@ -199,9 +201,9 @@ pub enum QuantityReason {
 /// Why a text does not begin with UNIT or FAMT, and a slash.
 #[derive(Clone, Copy, PartialEq, Eq)]
 pub enum KindReason {
-    /// A letter of the code is in lower case.
+    /// Of its first four characters one is a letter in lower case.
     LowerCase,
-    /// Behind the code stands no slash.
+    /// Directly behind UNIT or FAMT stands no slash.
     NoSlash,
     /// Its first four characters are neither UNIT nor FAMT.
     Unknown,
@@ -212,7 +214,7 @@ pub enum KindReason {
 pub enum SecurityReason {
     /// It does not begin with ISIN and a space.
     NoIsin,
-    /// A letter of the ISIN is in lower case.
+    /// Behind that a letter stands in lower case.
     LowerCase,
     /// The ISIN is none.
     Isin(CodeFault),
@@ -273,7 +275,7 @@ pub enum ReferenceReason {
 pub enum SettlementReason {
     /// A letter is in lower case.
     LowerCase,
-    /// No slash stands before the code.
+    /// No slash stands in it.
     NoSlash,
     /// It does not fit.
     Other,

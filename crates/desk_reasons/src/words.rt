@@ -27,8 +27,9 @@ fn block_words(reason: BlockReason) -> &'static str
 {
     match reason {
         BlockReason::Empty => "the text is empty",
-        BlockReason::ByteOrderMark => "a byte order mark stands before {4:",
-        BlockReason::EarlierBlock => "a block 1, 2 or 3 stands before block 4",
+        BlockReason::ByteOrderMark => "the text begins with a byte order mark",
+        BlockReason::EarlierBlock => "the text begins with a block 1, 2 or 3",
+        BlockReason::ReturnAlone => "a carriage return without line feed stands behind {4:",
         BlockReason::NoLineFeed => "the text has no line feed",
         BlockReason::FirstLine => "the first line is not {4:",
         BlockReason::CutOff => "the text ends before its -}",
@@ -46,7 +47,7 @@ fn line_words(reason: LineReason) -> &'static str
         LineReason::Hyphen => "the line begins with a hyphen",
         LineReason::Name => "the name of the sequence is not 1 to 16 capitals or digits",
         LineReason::LowerCaseTag => "the letter of the tag is in lower case",
-        LineReason::Tag => "no tag of two digits and a letter stands between colons",
+        LineReason::Tag => "no tag of two digits and a letter stands between the first two colons",
         LineReason::Blank => "the line is empty, and no value goes on here",
         LineReason::NoValue => "no value goes on here",
         LineReason::Other => "the line may not stand here",
@@ -73,7 +74,7 @@ fn missing_words(reason: MissingReason) -> &'static str
         MissingReason::OtherOption(_) => "it stands here with an option that is not read: ",
         MissingReason::OneColon => "one colon stands before its qualifier, where two must",
         MissingReason::LowerCaseQualifier => "its qualifier has a letter in lower case",
-        MissingReason::OtherSequence => "it stands here, in another sequence",
+        MissingReason::OtherSequence => "it stands here, and not in its own sequence",
         MissingReason::Absent => "it stands nowhere",
     }
 }
@@ -86,11 +87,11 @@ fn shape_words(reason: ShapeReason) -> &'static str
         ShapeReason::Empty => "the number is missing",
         ShapeReason::Space => "a space stands in the number",
         ShapeReason::Sign => "the number has a sign",
-        ShapeReason::Point => "a point stands for the comma",
-        ShapeReason::Thousands => "a point stands in the number beside its comma",
+        ShapeReason::Point => "a point stands in the number, and no comma",
+        ShapeReason::Thousands => "a point stands in the number, and a comma too",
         ShapeReason::NotDigit => "a character of the number is neither digit nor comma",
         ShapeReason::NoComma => "the number has no comma",
-        ShapeReason::NoWhole => "no digit stands before the comma",
+        ShapeReason::NoWhole => "the number begins with a comma",
         ShapeReason::TwoCommas => "the number has more than one comma",
         ShapeReason::Other => "the number does not fit",
     }
@@ -115,7 +116,7 @@ fn currency_words(reason: CurrencyReason) -> &'static str
 {
     match reason {
         CurrencyReason::Negative => "N, the sign of a negative amount, stands before the currency",
-        CurrencyReason::LowerCase => "the currency has a letter in lower case",
+        CurrencyReason::LowerCase => "a letter in lower case stands where the currency must",
         CurrencyReason::NoCurrency => "the amount does not begin with a currency of three letters",
         CurrencyReason::Unknown => "the currency is none of these:",
     }
@@ -136,8 +137,8 @@ fn kind_words(reason: KindReason) -> &'static str
     ensures { result.now ≡ kind_words reason }
 {
     match reason {
-        KindReason::LowerCase => "the code before the number has a letter in lower case",
-        KindReason::NoSlash => "no slash stands between the code and the number",
+        KindReason::LowerCase => "a letter in lower case stands where UNIT or FAMT must",
+        KindReason::NoSlash => "no slash stands directly behind UNIT or FAMT",
         KindReason::Unknown => "the quantity begins with neither UNIT/ nor FAMT/",
     }
 }
@@ -157,7 +158,8 @@ fn isin_words(reason: CodeFault) -> &'static str
     ensures { result.now ≡ isin_words reason }
 {
     match reason {
-        CodeFault::Length => "the ISIN has not twelve characters",
+        CodeFault::Length =>
+            "not twelve characters stand in the first line behind ISIN and a space",
         CodeFault::Prefix => "the ISIN does not begin with two letters",
         CodeFault::Body => "the ISIN has a character that is no letter and no digit",
         CodeFault::Check(_) => "the check digit of the ISIN should be ",
@@ -171,7 +173,8 @@ fn security_words(reason: SecurityReason) -> &'static str
 {
     match reason {
         SecurityReason::NoIsin => "the first line does not begin with ISIN and a space",
-        SecurityReason::LowerCase => "the ISIN has a letter in lower case",
+        SecurityReason::LowerCase =>
+            "a letter in lower case stands in the first line behind ISIN and a space",
         SecurityReason::Isin(fault) => isin_words(fault),
         SecurityReason::Other => "the security does not fit",
     }
@@ -182,7 +185,7 @@ fn bic_words(reason: CodeFault) -> &'static str
     ensures { result.now ≡ bic_words reason }
 {
     match reason {
-        CodeFault::Length => "the BIC has not 8 or 11 characters",
+        CodeFault::Length => "not 8 or 11 characters stand behind the two slashes",
         CodeFault::Shape => "a character of the BIC may not stand in its place",
         _ => "the BIC does not fit",
     }
@@ -193,7 +196,7 @@ fn party_words(reason: PartyReason) -> &'static str
     ensures { result.now ≡ party_words reason }
 {
     match reason {
-        PartyReason::LowerCase => "the BIC has a letter in lower case",
+        PartyReason::LowerCase => "a letter in lower case stands behind the two slashes",
         PartyReason::Bic(fault) => bic_words(fault),
         PartyReason::Other => "the party does not fit",
     }
@@ -239,9 +242,10 @@ fn settlement_words(reason: SettlementReason) -> &'static str
     ensures { result.now ≡ settlement_words reason }
 {
     match reason {
-        SettlementReason::LowerCase => "the type of settlement has a letter in lower case",
-        SettlementReason::NoSlash => "two slashes must stand behind the qualifier",
-        SettlementReason::Other => "four letters or digits must stand behind the slash",
+        SettlementReason::LowerCase => "a letter in lower case stands behind SETR",
+        SettlementReason::NoSlash => "one slash stands behind SETR, where two must",
+        SettlementReason::Other =>
+            "its form is neither //TRAD nor /ISSUER/TRAD, with one to eight capitals or digits for ISSUER and four for TRAD",
     }
 }
 
@@ -250,7 +254,7 @@ fn function_words(reason: FunctionReason) -> &'static str
     ensures { result.now ≡ function_words reason }
 {
     match reason {
-        FunctionReason::LowerCase => "the function has a letter in lower case",
+        FunctionReason::LowerCase => "a letter in lower case stands in the value",
         FunctionReason::Other => "the function has not the form NEWM or NEWM/CODE",
     }
 }
