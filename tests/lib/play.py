@@ -14,7 +14,7 @@ PATIENCE = 120
 NEW = "NEW"
 
 # the line by which standard error tells what the opening of a file found, and one that is cut off
-FOUND = re.compile(rb"desk: [^\n]*: it (?:is new: a desk without entries is made in it|holds (?:no entries|1 entry|\d+ entries))\n")
+FOUND = re.compile(rb"desk: [^\n]*: it (?:is new: a desk without entries is made in it|holds (?:no entries|(?:1 entry|\d+ entries)(?:, and no run|; the last run is of \d{8})))\n")
 CUT_OFF = re.compile(rb"desk: [^\n]*\Z")
 
 # where files lie in memory, and nothing waits for a device; None where there is no such folder
@@ -43,9 +43,10 @@ def without_found(told):
     return FOUND.sub(b"", told, count=1)
 
 
-def found_in(path, entries, was_there=True):
-    """What the opening of a file with so many entries tells."""
-    words = {0: "it holds no entries", 1: "it holds 1 entry"}.get(entries, f"it holds {entries} entries")
+def found_in(path, entries, last_run=None, was_there=True):
+    """What the opening of a file tells that has so many entries, and of which the last run is of that day."""
+    behind = f"; the last run is of {last_run}" if last_run else ", and no run"
+    words = {0: "it holds no entries", 1: "it holds 1 entry" + behind}.get(entries, f"it holds {entries} entries" + behind)
     return f"desk: {path}: {words if was_there else 'it is new: a desk without entries is made in it'}\n".encode()
 
 

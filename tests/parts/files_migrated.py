@@ -1,11 +1,12 @@
 """What `tests/parts/files migrated` tries: whether `PROGRAM migrate OLD NEW` brings files of earlier versions over.
 
-Files of versions 1 and 2 are made of histories of the plain program, tests/plain, by tests/lib/old.py. So many are random ones, of
-which some runs, or all, are of one pass; they lie in a rollback journal's mode or in write-ahead mode, closed, or with a log that
-holds something. Of each `migrated N` must be told, N being the plain program's count, and nothing else; OLD must stay as it was,
-byte for byte, and so must what stands beside it, but that a log which holds something may be longer by the mark of an opening; NEW
-must stand alone, be sound to Python's SQLite, and have the plain program's rows in each table. Its report and its journal are the
-plain program's, and what is asked again gets its first reply. Brought over once more, it is `fault 50`, and NEW stays as it was.
+Files of versions 1 and 2 are made of histories of the plain program, tests/plain, by tests/lib/old.py. So many are random ones,
+of which some runs, or all, are of one pass; they lie in a rollback journal's mode or in write-ahead mode, closed, or with a log
+that holds something. Of each `migrated N` must be told, N being the plain program's count, and nothing else; OLD must stay as
+it was, byte for byte, and so must what stands beside it, but that a log which holds something may be longer by the mark of an
+opening; NEW must stand alone, be sound to Python's SQLite, and have the plain program's rows in each table. Its report and its
+journal are the plain program's, and what is asked again gets its first reply. Brought over once more, it is `fault 50`, and NEW
+stays as it was.
 
 So are worked days: examples/earlier.db, which is examples/day up to its first run; the folder of cases/drop/a_day, which then is
 taken again with the same answers and sums; and a chain of deliveries, of which a run of one pass left one that the next settles.
@@ -321,6 +322,10 @@ def old_ones(room):
     yield "another's table", NOT_OURS
     written(room.old, b"")
     yield "no bytes", NOT_OURS
+    written(room.old, b"")
+    written(room.old + "-wal", b"a log" * 1000)
+    yield "no bytes, and a log", NOT_OURS
+    os.remove(room.old + "-wal")
     written(room.old, b"no database\n" * 1000)
     yield "a text", NOT_OURS
     made(room.old, in_passes, SECOND)
@@ -355,9 +360,13 @@ def refused_new_ones(program):
         yield "a new file of no bytes", unlike(ended, migrated(books)) or why(room.differences(before, books))
         room.clear()
         room.new = os.path.join(room.top, "none/new.db")
-        yield "a new file in no folder", why(refusal_differences(program, room, NOT_OPENED, room.new))
+        yield "a new file in no folder", why(refusal_differences(program, room, NOT_OPENED, room.new + "-unfinished"))
         room.new = room.old
         yield "one file twice", why(refusal_differences(program, room, NOT_OURS, room.new))
+    for end in "-unfinished", "-unfinished-wal":
+        with new_room() as room:
+            room.old = made(room.new + end, books, SECOND)
+            yield f"an old file that is NEW{end}", why(refusal_differences(program, room, NOT_OURS, room.new))
 
 
 # ---- what is disturbed

@@ -2,13 +2,14 @@
 
 The files stand in tests/lib/odd.py, each with what is due; beside them are a path with no file, a file that a desk serves, and,
 where the test is not run by root, one that may not be read. At each file are let `play --db FILE`, `serve --db FILE --port N
---count 1`, `holdings --db FILE BIC ACCOUNT`, `sums --db FILE`, `drop --db FILE --in .. --out ..`, `report --db FILE` and
-`journal --db FILE`, one behind the other, or so many of these as is asked, others at each file. Of one that is not opened
-standard output must be `fault N` alone, with status 3 (so `serve` tells of no port, and `drop` writes no answer), and standard
-error one line, with the file's name, the number and why. The file must hold the same bytes, and none may stand beside it;
-where there is none, none is made, but by `play`, `serve` and `drop`. Of one that is opened the answers, and what the other
-words print, must be those of the plain program, tests/plain, and what the file holds, as Python's SQLite tells, what it held;
-standard error tells how many entries that are, or that the file is new.
+--count 1`, `holdings --db FILE BIC ACCOUNT`, `sums --db FILE`, `drop --db FILE --in .. --out ..`, `report --db FILE`,
+`journal --db FILE`, `play --db FILE --dry-run` and `check --db FILE`, one behind the other, or so many of these as is asked,
+others at each file. Of one that is not opened standard output must be `fault N` alone, with status 3 (so `serve` tells of no
+port, and `drop` writes no answer), and standard error one line, with the file's name, the number and why. The file must hold the
+same bytes, and none may stand beside it; where there is none, none is made, but by `play` that keeps its answers, `serve` and
+`drop`. Of one that is opened the answers, and what the other words print, must be those of the plain program, tests/plain, and
+what the file holds, as Python's SQLite tells, what it held, also where commands are tried; standard error tells how many
+entries that are, with the day of the last run, or that the file is new.
 
 A file of many entries is made by `play --db`, in two parts, and `sums --db` opens it. Where standard error is a terminal, it
 must say behind 20,000 entries, and behind each 5,000 more, that so many are read, and nothing of a file of one entry fewer;
@@ -28,17 +29,20 @@ from lib.files import books_after, dumped
 from lib.folders import taken, told_of
 from lib.odd import A_DAY, DENIED, IN_USE, NOTHING, OTHER_TABLES, Due, Odd, damaged_files, held_by_another
 from lib.odd import command, left_by_kill, odd_files, script_of_day
-from lib.play import PATIENCE, SHARED_MEMORY, found_in, ran, ran_whole, unlike
+from lib.play import PATIENCE, SHARED_MEMORY, answers_in, found_in, ran, ran_whole, unlike
 from lib.server import Server
+from plain.books import last_day
 from plain.program import answer
 
 MISSING = Due(61, "there is no such file, and none is made")
 # the words that make no file
-ASKING = ["holdings", "sums", "report", "journal"]
+ASKING = ["holdings", "sums", "report", "journal", "trial", "check"]
 # the words of which it is left out what the opening found
 LEFT_OUT = ["serve", "drop"]
 HOLDER = "ALPHDEFF", "A-1"
 ASKED = b"holdings %s %s\nsums\n" % tuple(it.encode() for it in HOLDER)
+# what is tried: a command that any desk accepts, one that it refuses then, and what it holds
+TRIED = command("participant", "TRIED-1", bic="ZETADEFF") + command("participant", "TRIED-2", bic="ZETADEFF") + ASKED
 # a log's head, and less than that of a page behind it
 MOST_NEW_LOG = 32 + 23
 GET_SUMS = b"GET /sums HTTP/1.1\r\n\r\n"
@@ -54,6 +58,10 @@ def answers_of_plain(script):
     told = holding[1] + b"\n", sums[1] + b"\n"
     asked = {"play": (0, printed[len(before) :]), "serve": (0, sums[1]), "drop": (0, b"422\nrefused 40\n.\n")}
     stands = {word: answer([word], script) for word in ("report", "journal")}
+    tried = answer(["play"], script + TRIED)[1][len(before) :]
+    refused = sum(not it.startswith(b"200") for it in answers_in(tried))
+    checked = refused != 0, b"%d requests, %d refused\n" % (len(answers_in(tried)), refused)
+    asked |= {"trial": (0, tried), "check": checked}
     return {**asked, "holdings": (holding[0][:3] != b"200", told[0]), "sums": (0, told[1]), **stands}
 
 
@@ -65,9 +73,15 @@ def dropped(program, path):
 
 
 def asked(program, word, path):
-    """How a word ends over a file: status, what was printed, and what was told. Of one that serves it is what a client gets."""
+    """How a word ends over a file: status, what was printed, and what was told. Of one that serves it is what a client gets, of one
+    that checks the last line."""
     if word == "play":
         return ran_whole(program, "play", "--db", path, given=ASKED)
+    if word == "trial":
+        return ran_whole(program, "play", "--db", path, "--dry-run", given=TRIED)
+    if word == "check":
+        status, printed, told = ran_whole(program, "check", "--db", path, given=TRIED)
+        return status, b"".join(printed.splitlines(keepends=True)[-1:]), told
     if word == "drop":
         return dropped(program, path)
     if word != "serve":
@@ -110,7 +124,8 @@ class Files:
     def __init__(self, program, words):
         self.program, self.count, self.tried = program, words, 0
         self.answers = {A_DAY: answers_of_plain(script_of_day()), NOTHING: answers_of_plain(b"")}
-        self.entries = {A_DAY: len(books_after(script_of_day()).history), NOTHING: 0}
+        day = books_after(script_of_day())
+        self.found = {A_DAY: (len(day.history), f"{last_day(day.history):08}"), NOTHING: (0, None)}
 
     def words(self):
         """The words that are let at the next file."""
@@ -127,7 +142,7 @@ class Files:
         if due.fault:
             wanted = 3, b"fault %d\n" % due.fault, f"desk: {path}: fault {due.fault}: {due.why}\n".encode()
         else:
-            found = b"" if word in LEFT_OUT else found_in(path, self.entries[due], is_there)
+            found = b"" if word in LEFT_OUT else found_in(path, *self.found[due], is_there)
             wanted = *self.answers[due][word], found
         try:
             ended = asked(self.program, word, path)

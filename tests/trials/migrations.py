@@ -93,6 +93,8 @@ def migrate(old, new):
             if os.path.getsize(new + end) and REFUSES_NEW:
                 raise Fault(50, new)
             os.remove(new + end)
+    if old in (new + "-unfinished", new + "-unfinished-wal"):
+        raise Fault(50, new)
     put(new, books if PUTS else EMPTY)
     print("migrated", len(books.history))
 
@@ -137,7 +139,7 @@ except Fault as it:
     sys.exit(3)
 except (OSError, sqlite3.Error):
     print("fault 61")
-    print(f"desk: {words[1] if os.path.isdir(words[1]) else words[2]}: fault 61: it is so", file=sys.stderr)
+    print(f"desk: {words[1] if os.path.isdir(words[1]) else words[2] + '-unfinished'}: fault 61: it is so", file=sys.stderr)
     sys.exit(3)
 """
 SOUND = {name: True for name in ("COMPARES", "FINISHES", "KEEPS_RULES", "PUTS", "REFUSES_NEW")}

@@ -8,7 +8,9 @@ mod ReportLemmas
 mod RunLemmas
 mod ExplainLemmas
 mod FailureLemmas
+mod FindingDataLemmas
 mod FindingLemmas
 mod CheckLemmas
 mod ServeLemmas
 mod DropLemmas
+mod TrialLemmas

@@ -1,6 +1,6 @@
 -- What is read of a file of an earlier version, and put into a new one.
 use Rattle.std.proofs.Common.{◌≡◌, List, sym, subst}
-use Rattle.std.specs.Prelude.{Result, Ok, Err, IfOk, OnOk}
+use Rattle.std.specs.Prelude.{Result, Ok, Err, IfOk, IsOkAnd, OnOk}
 use Rattle.sqlite.specs.Files.{file_state}
 use Rattle.sqlite.specs.Held.{Held}
 use Rattle.sqlite.specs.State.{State}
@@ -38,18 +38,18 @@ said {S} {E} store old new s (Ok done) entries most honest formed stage holds sa
 said {S} {E} store old new s (Err e) entries most honest formed stage holds say = tt
 
 -- and, once they were closed, the files
-held_files : {D : Type 0} {g : Ghosts D} (connection : Held (FileStore D g)) (files : Result (Files D) (FileStore D g)) (entries : List Entry) → IfOk files (AreClosed connection) → SayHistory (file_state connection) entries → HoldHistory files entries
+held_files : {D : Type 0} {g : Ghosts D} (connection : Held (FileStore D g)) (files : Result (Files D) (FileStore D g)) (entries : List Entry) → IsOkAnd files (AreClosed connection) → SayHistory (file_state connection) entries → HoldHistory files entries
 held_files connection (Ok files) entries closed it = record {
   books = it.books;
   history = it.history;
   says = λ clean. (let copied = closed clean in
       record { db = (file_state connection).committed; says = it.says copied.was_clean copied.was_open; seen = copied.seen; left = copied.left });
 }
-held_files connection (Err store) entries closed it = record { books = it.books; history = it.history; says = tt }
+held_files connection (Err store) entries closed it = absurd closed
 
 -- also where they are what was made
 pub held_closed : {D E : Type 0} {g : Ghosts D} (connection : Held (FileStore D g)) (made : Result (Made D g) E) (entries : List Entry)
-    → IfOk made (λ it. IfOk it.files (AreClosed connection)) → SayHistory (file_state connection) entries → IfOk made (λ it. HoldHistory it.files entries)
+    → IfOk made (λ it. IsOkAnd it.files (AreClosed connection)) → SayHistory (file_state connection) entries → IfOk made (λ it. HoldHistory it.files entries)
 held_closed connection (Ok it) entries closed says = held_files connection it.files entries closed says
 held_closed connection (Err e) entries closed says = tt
 

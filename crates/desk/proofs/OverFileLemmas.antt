@@ -22,6 +22,7 @@ use Rattle.desk.specs.ReportAnswer as reports
 use Rattle.desk.specs.ServeAnswer.{HoldsOn}
 use Rattle.desk.specs.ServeAnswer as serves
 use Rattle.desk.specs.Status.{Ends, IsUnopened}
+use Rattle.desk.specs.TrialAnswer as tries
 use Rattle.desk.specs.declared.over_file.Ask.{Ask}
 use Rattle.desk.specs.declared.over_file.Ask.TheVariants.{Play, Serve, Take, Tell}
 use Rattle.desk.specs.declared.over_file.Job.{Job}
@@ -33,6 +34,7 @@ use Rattle.desk.proofs.OverviewLemmas.{ended_overview}
 use Rattle.desk.proofs.PlayLemmas.{opened_played, opened_stands, played_there, plays_on_both}
 use Rattle.desk.proofs.ReportLemmas.{opened_left, opened_reported, reports_on_both}
 use Rattle.desk.proofs.ServeLemmas.{ended_served}
+use Rattle.desk.proofs.TrialLemmas.{ended_trial}
 
 -- what connections asked of a desk that was open is some requests
 pub some_served : (books : Books) (was is : Bool) (v0 v1 : View) → was ≡ false → (v1.is_honest → HoldsOn was v0 is v1) → AreHeld v0 v1 books → LeavesSome v0.room books (IsLeft is v1)
@@ -91,6 +93,7 @@ module _ {E : Type 0} (K : Books → Type 0) (L : Bool → Books → Type 0) (do
   opened_told (job.Show shown format) has_closed M from on ends books keeps =
       both given U reads result (Appends before after) (λ status. shows.IsOpenOverviewAnswer has_closed shown format books status (Appends before after)) from.0
       (ended_overview has_closed shown books before mid after format done result (from.1.told books keeps) ends.by)
+  opened_told (job.Try trial) has_closed M from on ends books keeps = ended_trial has_closed trial books given U reads before mid after done result (from.told books keeps) ends.by
 
   -- and what it left there
   pub left_in_files : {C D F : Type 0} (g : Ghosts D) (it : Job) (mark : Option C) (closed : Result (Files D) F) → IsDone it K L given U reads done (Appends before mid) → PassesOn L (AreLeft g mark closed) → Ends (is_ok closed) done result mid after
@@ -101,6 +104,7 @@ module _ {E : Type 0} (K : Books → Type 0) (L : Bool → Books → Type 0) (do
   left_in_files g (job.Ask (Tell owner account)) mark closed from on ends books keeps =
       opened_left (is_ok closed) K L done result (asked_for owner account.now) before mid after from.1 (AreLeft g mark closed) on ends books keeps
   left_in_files g (job.Show shown format) mark closed from on ends books keeps = (on.each false books (from.1.left books keeps)).says refl
+  left_in_files g (job.Try trial) mark closed from on ends books keeps = (on.each false books (from.left books keeps)).says refl
 
 -- what is told where the file was opened, of the books that were kept there, and where it was not
 module _ {E : Type 0} (given : Option (List ℕ)) (reads : Bool) (P : List ℕ → Type 0) where
@@ -112,6 +116,7 @@ module _ {E : Type 0} (given : Option (List ℕ)) (reads : Bool) (P : List ℕ �
   told_there U (job.Ask (Take folders)) (Ok status) has_closed L view kept told = (told.0, drops.told_opened has_closed told.1)
   told_there U (job.Ask (Tell owner account)) (Ok status) has_closed L view kept told = (told.0, reports.told_opened kept.0 (view.content, kept.1) has_closed told.1)
   told_there U (job.Show shown format) (Ok status) has_closed L view kept told = (told.0, shows.told_opened kept.0 (view.content, kept.1) has_closed told.1)
+  told_there U (job.Try trial) (Ok status) has_closed L view kept told = tries.told_opened kept.0 (view.content, kept.1) has_closed told
 
   pub told_not : {X : Type 0} (reader : X) (it : Job) (r : Result Status E) → IfOk r (λ status. IsUnopened status P) → IfOk r (λ status. IsFileAnswer it given (reader ≡ reader) reads status P)
   told_not reader it (Err e) told = tt
@@ -120,3 +125,4 @@ module _ {E : Type 0} (given : Option (List ℕ)) (reads : Bool) (P : List ℕ �
   told_not reader (job.Ask (Take folders)) (Ok status) told = (refl, drops.told_unopened told)
   told_not reader (job.Ask (Tell owner account)) (Ok status) told = (refl, reports.told_unopened told)
   told_not reader (job.Show shown format) (Ok status) told = (refl, shows.told_unopened told)
+  told_not reader (job.Try trial) (Ok status) told = tries.told_unopened refl told

@@ -1,4 +1,4 @@
--- A script on a new desk in memory.
+-- A script on a desk in memory, or over a file.
 use Rattle.std.proofs.Common.{inl, inr, ◌≡◌, ◌≢◌, ◌<◌, ◌≤◌, ℕ, Bool, false, List, length, get_or, All, Option, IfSome, refl, sym, ◌∙◌, subst, arith}
 use Rattle.std.proofs.KnownBytes.{Appends-trans}
 use Rattle.std.specs.Prelude.{◌++◌, Result, Ok, Err, IfOk, IsOkAnd, OnErr, OnOk, codes, true}
@@ -48,20 +48,20 @@ is_in_memory (Err faults.Closed) not_closed sound = cc
 pub only_memory : (answers : List (Result Reply Fault)) → All (λ answer. says_closed answer ≡ false) answers → All (λ answer. answer ≢ Err faults.Storage) answers → All IsReplyOrMemory answers
 only_memory answers not_closed sound = λ k d lt. is_in_memory (get_or answers k d) (not_closed k d lt) (sound k d lt)
 
-pub told : (r : Option (List ℕ)) (U : Type 0) (reads : Bool) (before after : Option (List ℕ)) (was is : Bool) (v0 v1 : View) → v0.room ≡ MOST_ENTRIES → v1.room ≡ v0.room → was ≡ false → is ≡ false → v1.device.failures ≡ v0.device.failures → v1.device.failures < MOST_FAILURES
-    → v1.is_honest → v1.device.is_honest → Holds was v0 no_books
+pub told : (books : Books) (r : Option (List ℕ)) (U : Type 0) (reads : Bool) (before after : Option (List ℕ)) (was is : Bool) (v0 v1 : View) → v0.room ≡ MOST_ENTRIES → v1.room ≡ v0.room → was ≡ false → is ≡ false → v1.device.failures ≡ v0.device.failures → v1.device.failures < MOST_FAILURES
+    → v1.is_honest → v1.device.is_honest → Holds was v0 books
     → ((books : Books) → v1.is_honest → Holds was v0 books → (script : List ℕ) × IfSome r (λ input. input ≡ script) × (length script ≤ LONGEST_SCRIPT) × PlaysScript was books script before after is v0 v1)
-    → IsPlayAnswer r U reads exit.Done (Appends before after)
-told r U reads before after was is v0 v1 most room not_closed stays sound few honest device holds played =
-    let p = played no_books honest holds in
+    → IsPlayAnswer books r U reads exit.Done (Appends before after)
+told books r U reads before after was is v0 v1 most room not_closed stays sound few honest device holds played =
+    let p = played books honest holds in
     let s = p.3 in
-    let P : ℕ → Type 0 = λ k. AnsweredInTurn k was no_books (asked_in s.items) s.answers is s.played.last in
-    let Q : Bool → Type 0 = λ b. AnsweredInTurn MOST_ENTRIES b no_books (asked_in s.items) s.answers is s.played.last in
-    let R : Bool → Type 0 = λ b. AnsweredInTurn MOST_ENTRIES false no_books (asked_in s.items) s.answers b s.played.last in
-    let run : AnsweredInTurn MOST_ENTRIES false no_books (asked_in s.items) s.answers false s.played.last = subst R stays (subst Q not_closed (subst P most s.played.in_turn)) in
+    let P : ℕ → Type 0 = λ k. AnsweredInTurn k was books (asked_in s.items) s.answers is s.played.last in
+    let Q : Bool → Type 0 = λ b. AnsweredInTurn MOST_ENTRIES b books (asked_in s.items) s.answers is s.played.last in
+    let R : Bool → Type 0 = λ b. AnsweredInTurn MOST_ENTRIES false books (asked_in s.items) s.answers b s.played.last in
+    let run : AnsweredInTurn MOST_ENTRIES false books (asked_in s.items) s.answers false s.played.last = subst R stays (subst Q not_closed (subst P most s.played.in_turn)) in
     let H : ℕ → Type 0 = λ k. Headline k s.played.last v1.content in
     let none = none_failed s.answers v0.device.failures v1.device.failures (s.played.blame honest device few) (omega (arith, sound)) in
-    let is_played : IsPlayed p.0 (answers_text s.items s.answers) = record {
+    let is_played : IsPlayed books p.0 (answers_text s.items s.answers) = record {
       items = s.items;
       answers = s.answers;
       last = s.played.last;
@@ -70,7 +70,7 @@ told r U reads before after was is v0 v1 most room not_closed stays sound few ho
       spells = s.spells;
       in_turn = run;
       promise = subst H (room ∙ most) (s.played.promise stays);
-      in_memory = only_memory s.answers (open_all_along MOST_ENTRIES false no_books s.played.last (asked_in s.items) s.answers run) none;
+      in_memory = only_memory s.answers (open_all_along MOST_ENTRIES false books s.played.last (asked_in s.items) s.answers run) none;
       written = refl;
     } in
     told_answers p.0 (answers_text s.items s.answers) p.1 is_played refl s.written
@@ -219,6 +219,12 @@ pub new_keeps : (made held : ListRegister) → held ≡ made → (view_of_lists 
 new_keeps made held same empty =
     let P : ListRegister → Type 0 = λ r. KeepsFormed (view_of_lists r).room no_books (view_of_lists r).content in
     subst P (sym same) (empty_formed _ _ empty)
+
+-- and what keeps the tables of some books keeps them where it is held
+pub held_keeps : (memory held : ListRegister) (books : Books) → held ≡ memory → (view_of_lists memory).room ≡ MOST_ENTRIES → KeptBy (view_of_lists memory) books → KeepsFormed (view_of_lists held).room books (view_of_lists held).content
+held_keeps memory held books same room keeps =
+    let P : ListRegister → Type 0 = λ r. KeepsFormed (view_of_lists r).room books (view_of_lists r).content in
+    subst P (sym same) (subst (λ (k : ℕ). KeepsFormed k books (view_of_lists memory).content) (sym room) keeps)
 
 pub limit_is : (made held : ListRegister) → held ≡ made → (view_of_lists made).room ≡ MOST_ENTRIES → (view_of_lists held).room ≡ MOST_ENTRIES
 limit_is made held same limit = let P : ListRegister → Type 0 = λ r. (view_of_lists r).room ≡ MOST_ENTRIES in subst P (sym same) limit

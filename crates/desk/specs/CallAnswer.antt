@@ -1,6 +1,7 @@
 -- What is answered to what is asked for, and to words of any kind.
 use Rattle.std.specs.Prelude.{◌≡◌, ℕ, Bool, List, [], Option, Some, None}
 use Rattle.clap.specs.declared.error.kind.ErrorKind.{ErrorKind}
+use Rattle.desk_engine.specs.Applied.{no_books}
 use Rattle.desk.specs.CheckAnswer.{IsCheckAnswer}
 use Rattle.desk.specs.DropAnswer.{IsDropAnswer}
 use Rattle.desk.specs.ExplainAnswer.{IsExplainAnswer}
@@ -11,9 +12,11 @@ use Rattle.desk.specs.PlayAnswer.{IsFilePlayAnswer, IsPlayAnswer}
 use Rattle.desk.specs.ReadAnswer.{IsReadAnswer}
 use Rattle.desk.specs.ReportAnswer.{IsReportAnswer, asked_for}
 use Rattle.desk.specs.ServeAnswer.{IsFileServeAnswer, IsServeAnswer}
+use Rattle.desk.specs.TrialAnswer.{IsFileTrialAnswer}
 use Rattle.desk.specs.Status.{IsFailureTold, status_of_error}
-use Rattle.desk_words.specs.Words.{CallValue, isin, read, play, check, explain, serve, holdings, sums, folder, report, journal, migrate, IsErrorIn, IsSaidBy}
+use Rattle.desk_words.specs.Words.{CallValue, isin, read, play, trial, check, explain, serve, holdings, sums, folder, report, journal, migrate, IsErrorIn, IsSaidBy}
 use Rattle.desk.specs.declared.answers.report.Shown.TheVariants.{Journal, Report}
+use Rattle.desk.specs.declared.answers.trial.Trial.TheVariants as tries
 use Rattle.desk.specs.declared.status.Failure.TheVariants.{Memory}
 use Rattle.desk.specs.declared.status.Status.{Status}
 
@@ -21,9 +24,11 @@ use Rattle.desk.specs.declared.status.Status.{Status}
 abbrev pub IsCallAnswer : CallValue → Option (List ℕ) → Type 0 → Bool → Status → (List ℕ → Type 0) → Type 0
 IsCallAnswer (isin code) given IsUnread may_fail status IsPrinted = IsUnread × IsIsinAnswer code status IsPrinted
 IsCallAnswer (read mt) given IsUnread may_fail status IsPrinted = IsReadAnswer mt given IsUnread may_fail status IsPrinted
-IsCallAnswer (play None) given IsUnread may_fail status IsPrinted = IsPlayAnswer given IsUnread may_fail status IsPrinted
+IsCallAnswer (play None) given IsUnread may_fail status IsPrinted = IsPlayAnswer no_books given IsUnread may_fail status IsPrinted
 IsCallAnswer (play (Some db)) given IsUnread may_fail status IsPrinted = IsFilePlayAnswer given IsUnread may_fail status IsPrinted
-IsCallAnswer check given IsUnread may_fail status IsPrinted = IsCheckAnswer given IsUnread may_fail status IsPrinted
+IsCallAnswer (trial db) given IsUnread may_fail status IsPrinted = IsFileTrialAnswer tries.Play given IsUnread may_fail status IsPrinted
+IsCallAnswer (check None format) given IsUnread may_fail status IsPrinted = IsCheckAnswer no_books format given IsUnread may_fail status IsPrinted
+IsCallAnswer (check (Some db) format) given IsUnread may_fail status IsPrinted = IsFileTrialAnswer (tries.Check format) given IsUnread may_fail status IsPrinted
 IsCallAnswer (explain words) given IsUnread may_fail status IsPrinted = IsUnread × IsExplainAnswer words status IsPrinted
 IsCallAnswer (serve None port count) given IsUnread may_fail status IsPrinted = IsUnread × IsServeAnswer port status IsPrinted
 IsCallAnswer (serve (Some db) port count) given IsUnread may_fail status IsPrinted = IsUnread × IsFileServeAnswer port status IsPrinted

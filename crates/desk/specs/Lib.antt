@@ -4,6 +4,7 @@ pub mod Closed
 pub mod DropAnswer
 pub mod ExplainAnswer
 pub mod Finding
+pub mod FindingData
 pub mod Input
 pub mod IsinAnswer
 pub mod Left
@@ -17,3 +18,4 @@ pub mod ReportAnswer
 pub mod ServeAnswer
 pub mod Status
 pub mod Told
+pub mod TrialAnswer

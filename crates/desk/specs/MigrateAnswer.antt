@@ -1,5 +1,5 @@
 -- What a migration answers, and what it reads and leaves.
-use Rattle.std.specs.Prelude.{◌≡◌, ◌⊎◌, ℕ, List, ◌++◌, Result, IfOk, codes, decimal}
+use Rattle.std.specs.Prelude.{◌≡◌, ◌⊎◌, ℕ, List, ◌++◌, Result, IsOkAnd, codes, decimal}
 use Rattle.sqlite.specs.Files.{IsCleanLeft}
 use Rattle.sqlite.specs.State.{State}
 use Rattle.sqlite.specs.declared.file.Leftover.TheVariants as left
@@ -9,6 +9,7 @@ use Rattle.sqlite_store.specs.declared.store.FileStore.{FileStore}
 use Rattle.sqlite_wal.specs.Recovery.{Image}
 use Rattle.desk_rules.specs.Books.{Books}
 use Rattle.desk_rules.specs.declared.history.entry.Entry.{Entry}
+use Rattle.desk_file.specs.Left.{LeavesIn}
 use Rattle.desk_old.specs.Old.{AreHistory, HoldsEntriesIn}
 use Rattle.desk.specs.Left.{FilesSay, TablesSay}
 use Rattle.desk.specs.Status.{IsUnopened}
@@ -30,15 +31,17 @@ pub record SayHistory (s : State) (entries : List Entry) : Type 0 where
   pub history : books.history ≡ entries
   pub says : TablesSay s books
 
--- and so do files by themselves, where they could be closed
+-- and so do files by themselves, which were closed
 pub record HoldHistory {D : Type 0} {g : Ghosts D} (files : Result (Files D) (FileStore D g)) (entries : List Entry) : Type 0 where
   pub books : Books
   pub history : books.history ≡ entries
-  pub says : IfOk files (λ closed. FilesSay g closed books)
+  pub says : IsOkAnd files (λ closed. FilesSay g closed books)
 
--- the entries are those that the files held, where no wrong answer of the device was taken as true
-abbrev pub IsRead : {D : Type 0} {g : Ghosts D} → Image → List Entry → FileStore D g → Type 0
-IsRead image entries read = IsCleanLeft (left.Store read) → HoldsEntriesIn image entries
+-- The entries are those that the files held, and these hold still what they held, where no wrong answer of the device was taken as
+-- true.
+pub record IsRead {D : Type 0} {g : Ghosts D} (image : Image) (entries : List Entry) (read : FileStore D g) : Type 0 where
+  pub which : IsCleanLeft (left.Store read) → HoldsEntriesIn image entries
+  pub kept : IsCleanLeft (left.Store read) → LeavesIn image (left.Store read)
 
 -- A history was brought over: files that held this image held its entries, and of just these is what was made.
 pub record IsMigrated {A B : Type 0} {f : Ghosts A} {g : Ghosts B} (image : Image) (it : Migrated A B f g) : Type 0 where

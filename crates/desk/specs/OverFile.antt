@@ -12,6 +12,7 @@ use Rattle.desk.specs.OverviewAnswer.{IsFileOverviewAnswer, IsOpenOverviewAnswer
 use Rattle.desk.specs.PlayAnswer.{AreKept, IsFilePlayAnswer, IsOpenPlayAnswer, IsPlayedAnyhow, PlaysFrom}
 use Rattle.desk.specs.ReportAnswer.{IsOpenReportAnswer, IsReportAnswer, LeavesBooks, ReportsFrom, asked_for}
 use Rattle.desk.specs.ServeAnswer.{IsFileServeAnswer, IsOpenServeAnswer, IsServeAnswer}
+use Rattle.desk.specs.TrialAnswer.{IsFileTrialAnswer, IsOpenTrialAnswer, TriesFrom}
 use Rattle.desk.specs.declared.answers.report.Shown.{Shown}
 use Rattle.desk.specs.declared.over_file.Ask.{Ask}
 use Rattle.desk.specs.declared.over_file.Ask.TheVariants.{Play, Serve, Take, Tell}
@@ -41,6 +42,7 @@ pub record ShowsFrom {E : Type 0} (AreBooks : Books → Type 0) (IsLeftSo : Bool
 abbrev pub IsDone : {E : Type 0} → Job → (Books → Type 0) → (Bool → Books → Type 0) → Option (List ℕ) → Type 0 → Bool → Result Status E → (List ℕ → Type 0) → Type 0
 IsDone (job.Ask ask) AreBooks IsLeftSo given IsUnread may_fail result IsPrinted = IsAsked ask MOST_ENTRIES AreBooks IsLeftSo given IsUnread may_fail result IsPrinted
 IsDone (job.Show shown format) AreBooks IsLeftSo given IsUnread may_fail result IsPrinted = IsUnread × ShowsFrom AreBooks IsLeftSo shown format result IsPrinted
+IsDone (job.Try trial) AreBooks IsLeftSo given IsUnread may_fail result IsPrinted = TriesFrom AreBooks IsLeftSo trial given IsUnread may_fail result IsPrinted
 
 -- what is told over a file that was opened, which was closed then, or could not be
 abbrev pub IsOpenAnswer : Job → Bool → (Bool → Books → Type 0) → Books → Option (List ℕ) → Type 0 → Bool → Status → (List ℕ → Type 0) → Type 0
@@ -49,6 +51,7 @@ IsOpenAnswer (job.Ask (Serve port count)) has_closed IsLeftSo books given IsUnre
 IsOpenAnswer (job.Ask (Take folders)) has_closed IsLeftSo books given IsUnread may_fail status IsPrinted = IsUnread × IsOpenDropAnswer has_closed status IsPrinted
 IsOpenAnswer (job.Ask (Tell owner account)) has_closed IsLeftSo books given IsUnread may_fail status IsPrinted = IsUnread × IsOpenReportAnswer has_closed books (asked_for owner account.now) status IsPrinted
 IsOpenAnswer (job.Show shown format) has_closed IsLeftSo books given IsUnread may_fail status IsPrinted = IsUnread × IsOpenOverviewAnswer has_closed shown format books status IsPrinted
+IsOpenAnswer (job.Try trial) has_closed IsLeftSo books given IsUnread may_fail status IsPrinted = IsOpenTrialAnswer has_closed trial books given IsUnread may_fail status IsPrinted
 
 -- what is left in its files, where they could be closed
 abbrev pub LeavesFiles : {C D F E : Type 0} → Ghosts D → Job → Result Status E → Option C → Result (Files D) F → Books → Option (List ℕ) → Type 0
@@ -57,6 +60,7 @@ LeavesFiles g (job.Ask (Serve port count)) told mark closed books given = Leaves
 LeavesFiles g (job.Ask (Take folders)) told mark closed books given = LeavesSome MOST_ENTRIES books (AreLeft g mark closed)
 LeavesFiles g (job.Ask (Tell owner account)) told mark closed books given = LeavesBooks told (AreLeft g mark closed) books
 LeavesFiles g (job.Show shown format) told mark closed books given = IfOk closed (λ files. FilesSay g files books)
+LeavesFiles g (job.Try trial) told mark closed books given = IfOk closed (λ files. FilesSay g files books)
 
 -- A job was done over files that held this image, and this is behind it. There are the books of an accepted history that they held, where
 -- no wrong answer of the device was taken as true; by these was told what was told, and of these is what was left.
@@ -74,3 +78,4 @@ IsFileAnswer (job.Ask (Serve port count)) given IsUnread may_fail status IsPrint
 IsFileAnswer (job.Ask (Take folders)) given IsUnread may_fail status IsPrinted = IsUnread × IsDropAnswer status IsPrinted
 IsFileAnswer (job.Ask (Tell owner account)) given IsUnread may_fail status IsPrinted = IsUnread × IsReportAnswer (asked_for owner account.now) status IsPrinted
 IsFileAnswer (job.Show shown format) given IsUnread may_fail status IsPrinted = IsUnread × IsFileOverviewAnswer shown format status IsPrinted
+IsFileAnswer (job.Try trial) given IsUnread may_fail status IsPrinted = IsFileTrialAnswer trial given IsUnread may_fail status IsPrinted

@@ -9,6 +9,7 @@ mod play;
 mod read;
 mod report;
 mod serve;
+mod trial;
 
 pub use check::answer_check;
 pub use drop::{Folders, take_folder};
@@ -20,3 +21,4 @@ pub use play::{answer_play, play_desk};
 pub use read::answer_read;
 pub use report::{Shown, answer_overview, show_on_both};
 pub use serve::{answer_serve, serve_desk};
+pub use trial::{Trial, try_on_both};

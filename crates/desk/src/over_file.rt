@@ -16,7 +16,8 @@ ghost use Rattle.desk.specs.PlayAnswer.{AreHeld, KeptBy};
 ghost use Rattle.desk.specs.Status.{IsOpeningFailure, IsUnopened};
 
 use crate::answers::{
-    Folders, Shown, play_desk, report_desk, serve_desk, show_on_both, take_folder,
+    Folders, Shown, Trial, play_desk, report_desk, serve_desk, show_on_both, take_folder,
+    try_on_both,
 };
 use crate::status::{Failure, Status};
 use crate::store::{
@@ -43,6 +44,8 @@ pub enum Job<'a> {
     Ask(Ask<'a>),
     /// This is shown of it
     Show(Shown, Format),
+    /// A script is tried over it
+    Try(Trial),
 }
 
 /// What a desk is asked.
@@ -83,7 +86,7 @@ pub fn over_file<S: Start, R: Source, W: Sink>(
     }
 }
 
-/// Opens the desk of a file. One that is told of is there; else it is made where there is none.
+/// Opens the desk of a file. One that is told of, or tried over, is there; else it is made where there is none.
 fn open_for<S: Start>(
     rt: &HostRuntime,
     path: &str,
@@ -95,7 +98,7 @@ fn open_for<S: Start>(
     ensures failure { IfErr result IsOpeningFailure }
 {
     match job {
-        Job::Ask(Ask::Tell(..)) | Job::Show(..) => open_there(rt, path, start),
+        Job::Ask(Ask::Tell(..)) | Job::Show(..) | Job::Try(_) => open_there(rt, path, start),
         Job::Ask(_) => open(rt, path, start),
     }
 }
@@ -141,6 +144,10 @@ fn over_both<S: Alter + Drop, R: Source, W: Sink>(
         Job::Ask(ask) => ask_on_both(rt, both, ask, teller, reader, writer),
         Job::Show(shown, format) => {
             let (told, conn) = show_on_both(rt.alloc(), both, *shown, *format, writer);
+            (told, None, conn)
+        }
+        Job::Try(trial) => {
+            let (told, conn) = try_on_both(rt.alloc(), both, *trial, reader, writer);
             (told, None, conn)
         }
     }

@@ -10,8 +10,8 @@ ghost use Rattle.desk.specs.Status.{IsFailureTold, IsNoWordsTold, status_of_erro
 ghost use Rattle.desk_words.specs.Words.{CallValue, IsAskable, ReadsOnlyInstructions, value_of_call, words_for};
 
 use crate::answers::{
-    Folders, Paths, Shown, answer_check, answer_explain, answer_isin, answer_overview, answer_play,
-    answer_read, answer_serve, migrate_file,
+    Folders, Paths, Shown, Trial, answer_check, answer_explain, answer_isin, answer_overview,
+    answer_play, answer_read, answer_serve, migrate_file,
 };
 use crate::over_file::{Ask, Job, over_file};
 use crate::status::{Failure, Status, tell_failure};
@@ -82,7 +82,12 @@ fn answer<R: Source, W: Sink>(
         Call::Read(mt) => answer_read(rt.alloc(), mt, reader, writer),
         Call::Play => answer_play(rt.alloc(), reader, writer),
         Call::PlayOn(db) => over_real_file(rt, db, &Job::Ask(Ask::Play), reader, writer),
-        Call::Check => answer_check(rt.alloc(), reader, writer),
+        Call::TryOn(db) => over_real_file(rt, db, &Job::Try(Trial::Play), reader, writer),
+        Call::Check(format) => answer_check(rt.alloc(), format, reader, writer),
+        Call::CheckOn(db, format) => {
+            let job = Job::Try(Trial::Check(format));
+            over_real_file(rt, db, &job, reader, writer)
+        }
         Call::Explain(quoted) => answer_explain(quoted, writer),
         Call::Serve(port, count) => answer_serve(rt, port, count, writer),
         Call::ServeOn(db, port, count) => {

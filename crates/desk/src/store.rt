@@ -6,6 +6,7 @@ ghost use Rattle.sqlite.specs.Held.{state};
 ghost use Rattle.sqlite_wal.specs.Files.{image_at};
 ghost use Rattle.desk_register.specs.declared.register.Stage.TheVariants.{Idle};
 ghost use Rattle.desk_file.specs.Opened.{IsOpened, view_of_both};
+ghost use Rattle.memory_register.specs.ListsView.{view_of_lists};
 ghost use Rattle.desk_rules.specs.Books.{Books};
 ghost use Rattle.desk_rules.specs.declared.limits.TheConstants.{MOST_ENTRIES};
 ghost use Rattle.desk.specs.Closed.{AreClosed};
@@ -171,9 +172,22 @@ pub fn connection_of<S: Alter + Drop>(
     ensures connection { result ≡ both.tables.connection }
     ensures left { both.stage ≡ Idle → (books : Books) → KeptBy (view_of_both S.Store both) books → TablesSay (state S.Store result) books }
 {
-    let conn = both.into_parts().1.into_connection();
+    parts_of(both).1
+}
+
+/// The same behind the register in memory.
+pub fn parts_of<S: Alter + Drop>(
+    both: MirroredRegister<ListRegister, SqlRegister<S>>,
+) -> (ListRegister, Connection<S>)
+    ensures memory { result.0 ≡ both.memory }
+    ensures idle { both.stage ≡ Idle → (view_of_lists result.0).stage ≡ Idle }
+    ensures connection { result.1 ≡ both.tables.connection }
+    ensures left { both.stage ≡ Idle → (books : Books) → KeptBy (view_of_both S.Store both) books → TablesSay (state S.Store result.1) books }
+{
+    let (memory, tables) = both.into_parts();
+    let conn = tables.into_connection();
     is_live(&conn);
-    conn
+    (memory, conn)
 }
 
 /// Tells how a run over a file ended, which was closed then, or could not be. A run that ended in a fault tells no other.

@@ -1,9 +1,12 @@
 //! What people are told beside the answers, on standard error, of the file of a desk, and of a port. No clause speaks of it.
 
 use crate::obstacle::{Obstacle, obstacle_to};
+use crate::status::Failure;
 use desk_book::Fault;
+use desk_codes::Day;
 use desk_file::{Difference, OpenFault, Progress, Table};
-use desk_rules::Reply;
+use desk_rules::{Entry, Reply};
+use sqlite::{Error, ErrorCode};
 use std::io::{self, IsTerminal};
 
 /// So many entries are read before it is told how far the opening of a file is.
@@ -83,6 +86,12 @@ pub struct Teller<'a> {
     has_told: bool,
     /// How many entries were read when the file was opened
     entries: u64,
+    /// The day of the last run among them, if there is one
+    last_run: Option<Day>,
+    /// The version that its tables say, if they are of another
+    version: Option<i64>,
+    /// What the library told of files that it did not open
+    code: Option<ErrorCode>,
 }
 
 impl<'a> Teller<'a> {
@@ -94,6 +103,9 @@ impl<'a> Teller<'a> {
             is_watched: rt.stderr().is_terminal(),
             has_told: false,
             entries: 0,
+            last_run: None,
+            version: None,
+            code: None,
         }
     }
 
@@ -105,22 +117,107 @@ impl<'a> Teller<'a> {
                 eprintln!(self.rt; "desk: {path}: it is new: a desk without entries is made in it")
             }
             0 => eprintln!(self.rt; "desk: {path}: it holds no entries"),
-            1 => eprintln!(self.rt; "desk: {path}: it holds 1 entry"),
-            count => eprintln!(self.rt; "desk: {path}: it holds {count} entries"),
+            count => self.found(count, if count == 1 { "entry" } else { "entries" }),
         };
     }
 
-    /// Tells why the file is not opened. Where it was, and its device failed then, the system says no more.
+    /// Tells how many entries were found, with the day of the last run.
+    fn found(&self, count: u64, noun: &str) -> io::Result<()> {
+        let path = self.path;
+        match &self.last_run {
+            Some(day) => {
+                let day = day.as_str();
+                eprintln!(self.rt;
+                    "desk: {path}: it holds {count} {noun}; the last run is of {day}"
+                )
+            }
+            None => eprintln!(self.rt; "desk: {path}: it holds {count} {noun}, and no run"),
+        }
+    }
+
+    /// Tells why the file is not opened; whether it was before it failed.
     pub fn unopened(&self, fault: OpenFault, was_open: bool) {
         match fault {
             OpenFault::NotOurFile(difference) => self.differs(difference),
-            OpenFault::OtherVersion => self.tell(51, "its tables are of another version"),
+            OpenFault::OtherVersion => self.of_version(match self.version {
+                Some(1 | 2) =>
+                    "those of this program of 3; desk migrate brings over a desk's of 1 and 2",
+                _ => "those of this program of 3",
+            }),
             OpenFault::Memory => self.tell(60, "memory is wanting"),
-            OpenFault::Storage if was_open => self.tell(
-                61,
-                "its device failed as it was read, or written: an error there, or no room left",
+            OpenFault::Storage => self.failed_so(was_open),
+        }
+    }
+
+    /// Tells why the file of an earlier version is not read.
+    pub fn unread(&self, fault: OpenFault, was_open: bool) {
+        match fault {
+            OpenFault::OtherVersion => self.of_version(match self.version {
+                Some(3) => "as those of this program are: it needs no migration",
+                _ => "1 and 2 are brought over",
+            }),
+            _ => self.unopened(fault, was_open),
+        }
+    }
+
+    /// Tells of which version the file is, and what that comes to.
+    fn of_version(&self, words: &str) {
+        let path = self.path;
+        let _ = match self.version {
+            Some(number) => {
+                eprintln!(self.rt;
+                    "desk: {path}: fault 51: its tables are of version {number}, {words}"
+                )
+            }
+            None => eprintln!(self.rt;
+                "desk: {path}: fault 51: its tables are of another version, {words}"
             ),
-            OpenFault::Storage => self.obstructed(),
+        };
+    }
+
+    /// Tells how the file failed: what the library told, or what stands in its way. Once it was open, the system says no more.
+    fn failed_so(&self, was_open: bool) {
+        match self.code {
+            Some(ErrorCode::DatabaseBusy) => self.tell(
+                61,
+                "another program has it open, or its log",
+            ),
+            Some(ErrorCode::DiskFull) => self.tell(61, "no room is left on its device"),
+            Some(ErrorCode::DatabaseCorrupt) => {
+                self.tell(61, "its device gave other bytes than it took")
+            }
+            _ if was_open => self.device_failed(),
+            _ => self.obstructed(),
+        }
+    }
+
+    /// Tells that the device failed.
+    fn device_failed(&self) {
+        self.tell(
+            61,
+            "its device failed as it was read, or written: an error there, or no room left",
+        );
+    }
+
+    /// Tells that the file is none that may be read, or made, and why.
+    pub fn refused(&self, words: &str) {
+        self.tell(50, words);
+    }
+
+    /// Tells in what a call of the system failed, and why.
+    pub fn hindered(&self, words: &str, error: &io::Error) {
+        match error.kind() {
+            io::ErrorKind::OutOfMemory => self.tell(60, "memory is wanting"),
+            _ => self.tell_error(words, error),
+        }
+    }
+
+    /// Tells that a history could not be put into the file.
+    pub fn unfilled(&self, failure: Failure) {
+        match failure {
+            Failure::Memory => self.tell(60, "memory is wanting"),
+            Failure::NotOurFile => self.tell(50, "it holds entries already"),
+            _ => self.device_failed(),
         }
     }
 
@@ -272,8 +369,21 @@ impl<'a> Teller<'a> {
 }
 
 impl Progress for Teller<'_> {
-    fn taken(&mut self, count: u64) {
+    fn says_version(&mut self, number: i64) {
+        self.version = Some(number);
+    }
+
+    fn failed(&mut self, error: &Error) {
+        if let Error::SqliteFailure(code) = error {
+            self.code = Some(*code);
+        }
+    }
+
+    fn taken(&mut self, count: u64, entry: &Entry) {
         self.entries = count;
+        if let Entry::Run { day, .. } = entry {
+            self.last_run = Some(*day);
+        }
         if self.is_watched && count >= UNTOLD && count % TOLD_EACH == 0 {
             let _ = eprintln!(self.rt; "desk: {}: {count} entries are read", self.path);
         }
@@ -288,9 +398,9 @@ impl Watch for Teller<'_> {
     fn look(&mut self, is_closed: bool) {
         if is_closed && !self.has_told {
             self.has_told = true;
-            self.tell(
-                62,
-                "the file failed, and the desk is closed: it answers nothing more; run it anew over the file",
+            let _ = eprintln!(self.rt;
+                "desk: {}: fault 62: the file failed, and the desk is closed: it answers nothing more; run it anew over the file",
+                self.path
             );
         }
     }

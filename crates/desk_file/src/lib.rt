@@ -50,4 +50,5 @@ pub use opening::{adopt, open_file};
 pub use reopening::{give_up, reopen};
 pub use schema::ours::{has_desk_tables, is_desk};
 pub use tables::{adopt_tables, open_tables};
+pub use taking::tell_version;
 pub use version::version_said;

@@ -82,6 +82,7 @@ pub fn open_file<S: Start, P: Progress>(
     let conn = match open_in_order(rt, path, start) {
         Ok(conn) => conn,
         Err((error, left)) => {
+            progress.failed(&error);
             let fault = fault_of_files(&error, is_caught(&left));
             return Err((fault, left));
         }

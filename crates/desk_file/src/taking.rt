@@ -27,6 +27,13 @@ use sql_tables::version::VERSION;
 use sqlite::{Alter, Connection};
 use std::alloc::Global;
 
+/// Tells the version that a database says, if it says one.
+pub fn tell_version<P: Progress>(said: Option<i64>, progress: &mut P) {
+    if let Some(number) = said {
+        progress.says_version(number);
+    }
+}
+
 /// Why a database is refused that says this of its version.
 fn refused_for(said: Option<i64>) -> OpenFault
     ensures other { result ≡ OpenFault.OtherVersion → IsSomeAnd said (λ number. number ≢ pos 3) }
@@ -45,13 +52,16 @@ fn refused_for(said: Option<i64>) -> OpenFault
 }
 
 /// Why a database that is not the desk's, in this version, is refused.
-fn refusal<S: Alter>(conn: &mut Connection<S>) -> OpenFault
+fn refusal<S: Alter, P: Progress>(conn: &mut Connection<S>, progress: &mut P) -> OpenFault
     ensures spares { Spares (state S.Store conn.old) (state S.Store conn.new) }
     ensures blame { HasCleanDisk (state S.Store conn.new) → IsTrue (state S.Store conn.old).is_open → (state S.Store conn.old).in_transaction ≡ false → (state S.Store conn.old).step_limit ≡ None → IsBlamed (state S.Store conn.old) (state S.Store conn.new) result }
     ensures other { HasCleanDisk (state S.Store conn.new) → result ≡ OpenFault.OtherVersion → SaysOther S.Store (tables S.Store conn.old) }
 {
     match version_said(conn) {
-        Ok(said) => refused_for(said),
+        Ok(said) => {
+            tell_version(said, progress);
+            refused_for(said)
+        }
         Err(error) => fault_of(&error),
     }
 }
@@ -103,7 +113,7 @@ fn find<S: Alter + Drop, P: Progress>(
     match audit(alloc, &mut conn, &mut memory, progress) {
         Ok(Audited::Whole) => Ok(MirroredRegister::new(memory, SqlRegister::over(conn, limit))),
         Ok(Audited::OtherTables | Audited::OtherVersion) => {
-            let fault = refusal(&mut conn);
+            let fault = refusal(&mut conn, progress);
             Err((fault, conn))
         }
         Ok(Audited::OtherEntry(number)) => {

@@ -166,3 +166,20 @@ pub record GivesReference (bytes reference : List ℕ) : Type 0 where
   pub value : Data
   pub reads : read bytes ≡ Some value
   pub gives : text_at (codes "ref") value ≡ Some reference
+
+-- an object has a member of this name, which is neither `op` nor one of these
+pub record IsOtherMember (d : Data) (members : List Member) (name : List ℕ) : Type 0 where
+  pub there : get name d ≢ None
+  pub no_op : name ≢ codes "op"
+  pub others : All (λ member. name_of member ≢ name) members
+
+-- one that its operation does not have
+abbrev pub OtherMember : Data → List ℕ → Type 0
+OtherMember d name = (operation : Operation) × (text_at (codes "op") d ≡ Some (word_of operation)) × IsOtherMember d (members_of operation) name
+
+-- the text is JSON with such a member
+pub record HasOtherMember (bytes name : List ℕ) : Type 0 where
+  pub utf8 : IsUtf8 bytes
+  pub value : Data
+  pub reads : read bytes ≡ Some value
+  pub other : OtherMember value name

@@ -10,6 +10,7 @@ mod lines;
 
 pub use commands::fault::{CommandFault, MemberFault, TextFault, write_command_fault};
 pub use commands::member::{Member, NumberMember, Operation, TextMember};
+pub use commands::other::other_member;
 pub use commands::reading::{command_reference, why_no_command};
 pub use lines::fault::{LineFault, write_line_fault};
 pub use lines::form::{Form, Named};

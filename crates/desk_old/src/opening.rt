@@ -68,6 +68,7 @@ pub fn old_entries<S: Start, P: Progress>(
     let mut conn = match open_in_order(rt, path, start) {
         Ok(conn) => conn,
         Err((error, left)) => {
+            progress.failed(&error);
             let fault = fault_of_files(&error, is_caught(&left));
             return Err((fault, left));
         }

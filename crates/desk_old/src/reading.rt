@@ -13,7 +13,7 @@ ghost use Rattle.desk_old.specs.Old.{AreHistory, HoldsEntries, HoldsOld, IsNeith
 use crate::held::entries_held;
 use desk_file::{
     Audited, Difference, OpenFault, Progress, audit_version, fault_of, fault_of_audit,
-    has_desk_tables, version_said,
+    has_desk_tables, tell_version, version_said,
 };
 use desk_rules::{Entry, MOST_ENTRIES};
 use memory_register::ListRegister;
@@ -45,13 +45,16 @@ fn refused_for(said: Option<i64>) -> OpenFault
 }
 
 /// Why a database that is none of these versions is refused.
-fn refusal<S: Alter>(conn: &mut Connection<S>) -> OpenFault
+fn refusal<S: Alter, P: Progress>(conn: &mut Connection<S>, progress: &mut P) -> OpenFault
     ensures spares { Spares (state S.Store conn.old) (state S.Store conn.new) }
     ensures blame { HasCleanDisk (state S.Store conn.new) → IsTrue (state S.Store conn.old).is_open → (state S.Store conn.old).in_transaction ≡ false → (state S.Store conn.old).step_limit ≡ None → IsBlamed (state S.Store conn.old) (state S.Store conn.new) result }
     ensures other { HasCleanDisk (state S.Store conn.new) → result ≡ OpenFault.OtherVersion → SaysNeither S.Store (tables S.Store conn.old) }
 {
     match version_said(conn) {
-        Ok(said) => refused_for(said),
+        Ok(said) => {
+            tell_version(said, progress);
+            refused_for(said)
+        }
         Err(error) => fault_of(&error),
     }
 }
@@ -78,7 +81,7 @@ pub fn read_old<S: Alter, P: Progress>(
             Ok(entries) => Ok(entries),
             Err(_) => Err(OpenFault::Memory),
         },
-        Ok(Audited::OtherTables | Audited::OtherVersion) => Err(refusal(conn)),
+        Ok(Audited::OtherTables | Audited::OtherVersion) => Err(refusal(conn, progress)),
         Ok(Audited::OtherEntry(number)) => { Err(OpenFault::NotOurFile(Difference::Entry(number))) }
         Ok(Audited::Differs(table)) => Err(OpenFault::NotOurFile(Difference::Table(table))),
         Err(fault) => Err(fault_of_audit(&fault)),

@@ -12,7 +12,7 @@ use Rattle.clap.proofs.WalkLemmas.{first_value-rows, one_text-rows}
 use Rattle.desk_words.proofs.NumberWords.{IsTaken, number_taken, plain_number}
 use Rattle.desk_words.proofs.ReportWords.{IsPlainFile, built_desk, is_no_flag, one_form, passes_stopped, plain_file, stops, takes_by}
 use Rattle.desk_words.proofs.WalkWords.{Walks, at, behind_option, behind_value, ends_well, found_at, goes, level, passes_value, stands, value_row, walks_value}
-use Rattle.desk_words.specs.Words.{CallValue, IsFormatOf, IsFrom, IsFromAskable, IsFromSpelledOut, IsNoOptionIn, IsSaid, IsSpelledOut, check, desk_app, explain, folder, holdings, isin, journal, journal_app, migrate, play, read, report, serve, sums, words_for, words_of_file, words_of_format}
+use Rattle.desk_words.specs.Words.{CallValue, IsFormatOf, IsFrom, IsFromAskable, IsFromSpelledOut, IsNoOptionIn, IsSaid, IsSpelledOut, check, desk_app, explain, folder, holdings, isin, journal, journal_app, migrate, play, read, report, serve, sums, trial, words_for, words_of_file, words_of_format}
 use Rattle.desk_report.specs.declared.format.Format.{Format}
 use Rattle.desk_report.specs.declared.format.Format.TheVariants.{Json, Text}
 
@@ -188,7 +188,8 @@ module _ (asked : CallValue) (f : Found) where
       go (isin code) h = let bad : 106 ≡ 105 = ap (λ t. slice_index t 0) h.0 in absurd (omega (arith, bad))
       go (read mt) h = let bad : 106 ≡ 114 = ap (λ t. slice_index t 0) h.0 in absurd (omega (arith, bad))
       go (play db) h = let bad : 106 ≡ 112 = ap (λ t. slice_index t 0) h.0 in absurd (omega (arith, bad))
-      go check h = let bad : 106 ≡ 99 = ap (λ t. slice_index t 0) h in absurd (omega (arith, bad))
+      go (trial db) h = let bad : 106 ≡ 112 = ap (λ t. slice_index t 0) h.0 in absurd (omega (arith, bad))
+      go (check db format) h = let bad : 106 ≡ 99 = ap (λ t. slice_index t 0) h.0 in absurd (omega (arith, bad))
       go (explain words) h = let bad : 106 ≡ 101 = ap (λ t. slice_index t 0) h.0 in absurd (omega (arith, bad))
       go (serve db port count) h = let bad : 106 ≡ 115 = ap (λ t. slice_index t 0) h.0 in absurd (omega (arith, bad))
       go (holdings db bic account) h = let bad : 106 ≡ 104 = ap (λ t. slice_index t 0) h.0 in absurd (omega (arith, bad))

@@ -1,4 +1,5 @@
 mod CatalogueLemmas
+mod CheckWords
 mod ErrorLemmas
 pub mod WritingLemmas
 mod JournalWords
@@ -6,6 +7,7 @@ mod MigrateWords
 mod NumberWords
 mod ParserLemmas
 mod PlainWords
+mod PlayWords
 mod ReportWords
 mod TopicLemmas
 mod WalkWords

@@ -12,7 +12,7 @@ use Rattle.clap.proofs.WalkLemmas.{first_value-rows}
 use Rattle.desk_words.proofs.PlainWords.{IsPlain}
 use Rattle.desk_words.proofs.ReportWords.{built_desk, passes_stopped, stops, takes_by}
 use Rattle.desk_words.proofs.WalkWords.{Walks, behind_value, found_at, goes, level, passes_place, stands, value_row, walks_place}
-use Rattle.desk_words.specs.Words.{CallValue, IsSaid, IsSpelledOut, check, desk_app, explain, folder, holdings, isin, journal, migrate, migrate_app, play, read, report, serve, sums, words_for}
+use Rattle.desk_words.specs.Words.{CallValue, IsSaid, IsSpelledOut, check, desk_app, explain, folder, holdings, isin, journal, migrate, migrate_app, play, read, report, serve, sums, trial, words_for}
 
 -- what the parser knows of `migrate`
 migrate_shape : Shape
@@ -80,7 +80,8 @@ pub files_by : (asked : CallValue) (f : Found) → IsSpelledOut asked (codes "mi
 files_by (isin code) f h = let bad : 109 ≡ 105 = ap (λ t. slice_index t 0) h.0 in absurd (omega (arith, bad))
 files_by (read mt) f h = let bad : 109 ≡ 114 = ap (λ t. slice_index t 0) h.0 in absurd (omega (arith, bad))
 files_by (play db) f h = let bad : 109 ≡ 112 = ap (λ t. slice_index t 0) h.0 in absurd (omega (arith, bad))
-files_by check f h = let bad : 109 ≡ 99 = ap (λ t. slice_index t 0) h in absurd (omega (arith, bad))
+files_by (trial db) f h = let bad : 109 ≡ 112 = ap (λ t. slice_index t 0) h.0 in absurd (omega (arith, bad))
+files_by (check db format) f h = let bad : 109 ≡ 99 = ap (λ t. slice_index t 0) h.0 in absurd (omega (arith, bad))
 files_by (explain words) f h = let bad : 109 ≡ 101 = ap (λ t. slice_index t 0) h.0 in absurd (omega (arith, bad))
 files_by (serve db port count) f h = let bad : 109 ≡ 115 = ap (λ t. slice_index t 0) h.0 in absurd (omega (arith, bad))
 files_by (holdings db bic account) f h = let bad : 109 ≡ 104 = ap (λ t. slice_index t 0) h.0 in absurd (omega (arith, bad))

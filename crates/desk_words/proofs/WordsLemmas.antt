@@ -25,13 +25,15 @@ use Rattle.desk_msg.specs.declared.mt.Mt.TheVariants.{Mt540, Mt541, Mt542, Mt543
 use Rattle.desk_codes.specs.Bic.{IsBic, ReadsBic, party_of}
 use Rattle.desk_rules.proofs.PartLemmas.{bic_itself}
 use Rattle.desk_codes.specs.Characters.{IsCodeChar}
+use Rattle.desk_words.proofs.CheckWords.{enters_check, takes_check}
 use Rattle.desk_words.proofs.JournalWords.{enters_journal, takes_journal}
 use Rattle.desk_words.proofs.MigrateWords.{enters_migrate, takes_migrate}
 use Rattle.desk_words.proofs.NumberWords.{IsTaken, no_sign, number_taken, plain_number}
 use Rattle.desk_words.proofs.PlainWords.{IsPlain, no_dashes, no_long, no_short, plain_word}
+use Rattle.desk_words.proofs.PlayWords.{enters_alone, enters_on_file, takes_alone, takes_on_file}
 use Rattle.desk_words.proofs.ReportWords.{enters_report, enters_several, one_form, takes_report, takes_several}
 use Rattle.desk_words.proofs.WalkWords.{Walks, behind_option, behind_value, found_at, goes, level, passes_place, passes_value, stands, value_row, walks_place, walks_value}
-use Rattle.desk_words.specs.Words.{ArePartWords, ArePartsOf, CallValue, IsAskable, IsBicText, IsErrorIn, IsFormatOf, IsNoOption, IsNoOptionIn, IsSpelledOut, IsSaid, IsSaidBy, IsSaidIn, IsTypeText, value_of_call, desk_app, IsNumberText, answer_words_in, check, explain, holdings, isin, journal, part_words_in, parts_by, play, read, report, report_words, serve, sums, serve_app, words_for, drop_app, explain_app, folder, holdings_app, migrate, words_found}
+use Rattle.desk_words.specs.Words.{ArePartWords, ArePartsOf, CallValue, IsAskable, IsBicText, IsErrorIn, IsFormatOf, IsNoOption, IsNoOptionIn, IsSpelledOut, IsSaid, IsSaidBy, IsSaidIn, IsTypeText, value_of_call, desk_app, IsNumberText, answer_words_in, check, explain, holdings, isin, journal, part_words_in, parts_by, play, read, report, report_words, serve, sums, serve_app, trial, words_for, drop_app, explain_app, folder, holdings_app, migrate, words_found}
 use Rattle.desk_report.specs.declared.part.Parts.{Parts}
 use Rattle.desk_report.specs.declared.format.Format.{Format}
 use Rattle.desk_words.specs.declared.calls.Call.{Call}
@@ -82,14 +84,6 @@ takes_read program Mt545 is = absurd (not_true is)
 takes_read program Mt546 is = absurd (not_true is)
 takes_read program Mt547 is = absurd (not_true is)
 
-takes_play : (program : List ℕ) → takes desk_app (program ∷ words_for (play None)) ≡ true
-unfolding clap_on_literals
-takes_play program = refl
-
-takes_play_on : (program db : List ℕ) → IsPlain db → takes desk_app (program ∷ words_for (play (Some db))) ≡ true
-unfolding clap_on_literals
-takes_play_on program db is = rw (is.dashes, is.long, is.short) refl
-
 takes_sums : (program db : List ℕ) → IsPlain db → takes desk_app (program ∷ words_for (sums db)) ≡ true
 unfolding clap_on_literals
 takes_sums program db is = rw (is.dashes, is.long, is.short) refl
@@ -132,10 +126,6 @@ drop_shape = built_leaf drop_app.top
 
 abbrev words_of_folder : List ℕ → List ℕ → List ℕ → List (List ℕ)
 words_of_folder db from to = codes "--db" ∷ db ∷ codes "--in" ∷ from ∷ codes "--out" ∷ to ∷ []
-
-takes_check : (program : List ℕ) → takes desk_app (program ∷ words_for check) ≡ true
-unfolding clap_on_literals
-takes_check program = refl
 
 -- what the parser knows of `explain`, and three words behind it
 explain_shape : Shape
@@ -299,9 +289,10 @@ takes_folder program db from to f a b = and_true (level_passes drop_shape [] not
 pub takes_asked : (program : List ℕ) (asked : CallValue) → IsAskable asked → takes desk_app (program ∷ words_for asked) ≡ true
 takes_asked program (isin code) other = takes_isin program code (no_dashes code other) (no_long code other) (no_short code other)
 takes_asked program (read mt) is = takes_read program mt is
-takes_asked program (play None) is = takes_play program
-takes_asked program (play (Some db)) is = takes_play_on program db (plain_word db is)
-takes_asked program check is = takes_check program
+takes_asked program (play None) is = takes_alone program
+takes_asked program (play (Some db)) is = takes_on_file program db false (plain_word db is)
+takes_asked program (trial db) is = takes_on_file program db true (plain_word db is)
+takes_asked program (check db format) is = takes_check program db format is
 takes_asked program (explain words) is = takes_explain program words is.0 is.1
 takes_asked program (serve None port count) is =
     takes_service program (decimal port) (decimal count) (number_taken port 65535 is.1.0 is.1.1 (omega arith)) (number_taken count 1000000 is.2 is.3 (omega arith))
@@ -337,15 +328,6 @@ enters_read program Mt545 is = absurd (not_true is)
 enters_read program Mt546 is = absurd (not_true is)
 enters_read program Mt547 is = absurd (not_true is)
 
-enters_play : (program : List ℕ) → IsSomeAnd (subcommand_of desk_app (program ∷ words_for (play None))) (λ p. (p.0 ≡ codes "play") × (first_of (codes "db") p.1 ≡ None))
-unfolding clap_on_literals
-enters_play program = (refl, refl)
-
-enters_play_on : (program db : List ℕ) → IsPlain db
-    → IsSomeAnd (subcommand_of desk_app (program ∷ words_for (play (Some db)))) (λ p. (p.0 ≡ codes "play") × (first_of (codes "db") p.1 ≡ Some db))
-unfolding clap_on_literals
-enters_play_on program db is = (refl, rw (is.dashes, is.long, is.short) refl)
-
 rows_of_account : (db bic account : List ℕ) → IsPlain db → IsPlain bic → IsPlain account
     → (first_of (codes "db") (rows_at holdings_shape (words_of_account db bic account)).1 ≡ Some db) × (first_of (codes "bic") (rows_at holdings_shape (words_of_account db bic account)).1 ≡ Some bic)
     × (first_of (codes "account") (rows_at holdings_shape (words_of_account db bic account)).1 ≡ Some account)
@@ -369,10 +351,6 @@ holdings_entered : (found : Option (List ℕ × List Row)) (db bic account : Lis
     → IsSomeAnd found (λ p. IsSpelledOut (holdings db bic account) p.0 p.1)
 holdings_entered None db bic account party is = is
 holdings_entered (Some p) db bic account party is = (is.0, is.1, party, is.2, is.3)
-
-enters_check : (program : List ℕ) → IsSomeAnd (subcommand_of desk_app (program ∷ words_for check)) (λ p. p.0 ≡ codes "check")
-unfolding clap_on_literals
-enters_check program = refl
 
 enters_explain : (program : List ℕ) (words : List (List ℕ)) → length words ≤ 3 → All IsNoOption words
     → IsSomeAnd (subcommand_of desk_app (program ∷ codes "explain" ∷ words)) (λ p. (p.0 ≡ codes "explain") × (words ≡ answer_words_in p.1))
@@ -434,9 +412,10 @@ service_entered (Some p) db port count a b is = (is.0, is.1, is.2, a, is.3, b)
 pub enters_asked : (program : List ℕ) (asked : CallValue) → IsAskable asked → IsSomeAnd (subcommand_of desk_app (program ∷ words_for asked)) (λ p. IsSpelledOut asked p.0 p.1)
 enters_asked program (isin code) other = enters_isin program code (no_dashes code other) (no_long code other) (no_short code other)
 enters_asked program (read mt) is = enters_read program mt is
-enters_asked program (play None) is = enters_play program
-enters_asked program (play (Some db)) is = enters_play_on program db (plain_word db is)
-enters_asked program check is = enters_check program
+enters_asked program (play None) is = enters_alone program
+enters_asked program (play (Some db)) is = enters_on_file program db false (plain_word db is)
+enters_asked program (trial db) is = enters_on_file program db true (plain_word db is)
+enters_asked program (check db format) is = enters_check program db format is
 enters_asked program (explain words) is = enters_explain program words is.0 is.1
 enters_asked program (serve None port count) is =
     let a : port < 2 ^ 16 = omega (arith, is.1.1) in
@@ -492,7 +471,8 @@ module _ (asked : CallValue) (name : List ℕ) (f : Found) where
       go (isin code) h = (code, refl, first_value-rows f (codes "code") ∙ h.1)
       go (read mt) h = let bad : 114 ≡ 105 = ap (λ t. slice_index t 0) (sym h.0 ∙ is) in absurd (omega (arith, bad))
       go (play db) h = let bad : 112 ≡ 105 = ap (λ t. slice_index t 0) (sym h.0 ∙ is) in absurd (omega (arith, bad))
-      go check h = let bad : 99 ≡ 105 = ap (λ t. slice_index t 0) (sym h ∙ is) in absurd (omega (arith, bad))
+      go (trial db) h = let bad : 112 ≡ 105 = ap (λ t. slice_index t 0) (sym h.0 ∙ is) in absurd (omega (arith, bad))
+      go (check db format) h = let bad : 99 ≡ 105 = ap (λ t. slice_index t 0) (sym h.0 ∙ is) in absurd (omega (arith, bad))
       go (explain words) h = let bad : 101 ≡ 105 = ap (λ t. slice_index t 0) (sym h.0 ∙ is) in absurd (omega (arith, bad))
       go (serve db port count) h = let bad : 115 ≡ 105 = ap (λ t. slice_index t 0) (sym h.0 ∙ is) in absurd (omega (arith, bad))
       go (holdings db bic account) h = let bad : 104 ≡ 105 = ap (λ t. slice_index t 0) (sym h.0 ∙ is) in absurd (omega (arith, bad))
@@ -509,7 +489,8 @@ module _ (asked : CallValue) (name : List ℕ) (f : Found) where
       go (isin code) h = let bad : 105 ≡ 114 = ap (λ t. slice_index t 0) (sym h.0 ∙ is) in absurd (omega (arith, bad))
       go (read mt) h = (mt, refl, one_text-rows f (codes "mt") ∙ h.1, h.2)
       go (play db) h = let bad : 112 ≡ 114 = ap (λ t. slice_index t 0) (sym h.0 ∙ is) in absurd (omega (arith, bad))
-      go check h = let bad : 99 ≡ 114 = ap (λ t. slice_index t 0) (sym h ∙ is) in absurd (omega (arith, bad))
+      go (trial db) h = let bad : 112 ≡ 114 = ap (λ t. slice_index t 0) (sym h.0 ∙ is) in absurd (omega (arith, bad))
+      go (check db format) h = let bad : 99 ≡ 114 = ap (λ t. slice_index t 0) (sym h.0 ∙ is) in absurd (omega (arith, bad))
       go (explain words) h = let bad : 101 ≡ 114 = ap (λ t. slice_index t 0) (sym h.0 ∙ is) in absurd (omega (arith, bad))
       go (serve db port count) h = let bad : 115 ≡ 114 = ap (λ t. slice_index t 0) (sym h.0 ∙ is) in absurd (omega (arith, bad))
       go (holdings db bic account) h = let bad : 104 ≡ 114 = ap (λ t. slice_index t 0) (sym h.0 ∙ is) in absurd (omega (arith, bad))
@@ -519,23 +500,6 @@ module _ (asked : CallValue) (name : List ℕ) (f : Found) where
       go (folder db from to) h = let bad : 100 ≡ 114 = ap (λ t. slice_index t 0) (sym h.0 ∙ is) in absurd (omega (arith, bad))
       go (migrate old fresh) h = let bad : 109 ≡ 114 = ap (λ t. slice_index t 0) (sym h.0 ∙ is) in absurd (omega (arith, bad))
 
-  named_play : name ≡ codes "play" → IsSpelledOut asked name (rows_of f) → (db : Option (List ℕ)) × (asked ≡ play db) × (first_value f (codes "db") ≡ db)
-  named_play is named = go asked named
-    where
-      go : (a : CallValue) → IsSpelledOut a name (rows_of f) → (db : Option (List ℕ)) × (a ≡ play db) × (first_value f (codes "db") ≡ db)
-      go (isin code) h = let bad : 105 ≡ 112 = ap (λ t. slice_index t 0) (sym h.0 ∙ is) in absurd (omega (arith, bad))
-      go (read mt) h = let bad : 114 ≡ 112 = ap (λ t. slice_index t 0) (sym h.0 ∙ is) in absurd (omega (arith, bad))
-      go (play db) h = (db, refl, first_value-rows f (codes "db") ∙ h.1)
-      go check h = let bad : 99 ≡ 112 = ap (λ t. slice_index t 0) (sym h ∙ is) in absurd (omega (arith, bad))
-      go (explain words) h = let bad : 101 ≡ 112 = ap (λ t. slice_index t 0) (sym h.0 ∙ is) in absurd (omega (arith, bad))
-      go (serve db port count) h = let bad : 115 ≡ 112 = ap (λ t. slice_index t 0) (sym h.0 ∙ is) in absurd (omega (arith, bad))
-      go (holdings db bic account) h = let bad : 104 ≡ 112 = ap (λ t. slice_index t 0) (sym h.0 ∙ is) in absurd (omega (arith, bad))
-      go (sums db) h = let bad : 115 ≡ 112 = ap (λ t. slice_index t 0) (sym h.0 ∙ is) in absurd (omega (arith, bad))
-      go (report db parts format) h = let bad : 114 ≡ 112 = ap (λ t. slice_index t 0) (sym h.0 ∙ is) in absurd (omega (arith, bad))
-      go (journal db from format) h = let bad : 106 ≡ 112 = ap (λ t. slice_index t 0) (sym h.0 ∙ is) in absurd (omega (arith, bad))
-      go (folder db from to) h = let bad : 100 ≡ 112 = ap (λ t. slice_index t 0) (sym h.0 ∙ is) in absurd (omega (arith, bad))
-      go (migrate old fresh) h = let bad : 109 ≡ 112 = ap (λ t. slice_index t 0) (sym h.0 ∙ is) in absurd (omega (arith, bad))
-
   named_explain : name ≡ codes "explain" → IsSpelledOut asked name (rows_of f) → (words : List (List ℕ)) × (asked ≡ explain words) × (words ≡ answer_words_in (rows_of f))
   named_explain is named = go asked named
     where
@@ -543,7 +507,8 @@ module _ (asked : CallValue) (name : List ℕ) (f : Found) where
       go (isin code) h = let bad : 105 ≡ 101 = ap (λ t. slice_index t 0) (sym h.0 ∙ is) in absurd (omega (arith, bad))
       go (read mt) h = let bad : 114 ≡ 101 = ap (λ t. slice_index t 0) (sym h.0 ∙ is) in absurd (omega (arith, bad))
       go (play db) h = let bad : 112 ≡ 101 = ap (λ t. slice_index t 0) (sym h.0 ∙ is) in absurd (omega (arith, bad))
-      go check h = let bad : 99 ≡ 101 = ap (λ t. slice_index t 0) (sym h ∙ is) in absurd (omega (arith, bad))
+      go (trial db) h = let bad : 112 ≡ 101 = ap (λ t. slice_index t 0) (sym h.0 ∙ is) in absurd (omega (arith, bad))
+      go (check db format) h = let bad : 99 ≡ 101 = ap (λ t. slice_index t 0) (sym h.0 ∙ is) in absurd (omega (arith, bad))
       go (explain words) h = (words, refl, h.1)
       go (serve db port count) h = let bad : 115 ≡ 101 = ap (λ t. slice_index t 0) (sym h.0 ∙ is) in absurd (omega (arith, bad))
       go (holdings db bic account) h = let bad : 104 ≡ 101 = ap (λ t. slice_index t 0) (sym h.0 ∙ is) in absurd (omega (arith, bad))
@@ -568,7 +533,8 @@ module _ (asked : CallValue) (name : List ℕ) (f : Found) where
       go (isin code) h = let bad : 105 ≡ 115 = ap (λ t. slice_index t 0) (sym h.0 ∙ is) in absurd (omega (arith, bad))
       go (read mt) h = let bad : 114 ≡ 115 = ap (λ t. slice_index t 0) (sym h.0 ∙ is) in absurd (omega (arith, bad))
       go (play db) h = let bad : 112 ≡ 115 = ap (λ t. slice_index t 0) (sym h.0 ∙ is) in absurd (omega (arith, bad))
-      go check h = let bad : 99 ≡ 115 = ap (λ t. slice_index t 0) (sym h ∙ is) in absurd (omega (arith, bad))
+      go (trial db) h = let bad : 112 ≡ 115 = ap (λ t. slice_index t 0) (sym h.0 ∙ is) in absurd (omega (arith, bad))
+      go (check db format) h = let bad : 99 ≡ 115 = ap (λ t. slice_index t 0) (sym h.0 ∙ is) in absurd (omega (arith, bad))
       go (explain words) h = let bad : 101 ≡ 115 = ap (λ t. slice_index t 0) (sym h.0 ∙ is) in absurd (omega (arith, bad))
       go (serve db port count) h = (db, port, count, refl, first_value-rows f (codes "db") ∙ h.1, one_text-rows f (codes "port") ∙ h.2, h.3, one_text-rows f (codes "count") ∙ h.4, h.5)
       go (holdings db bic account) h = let bad : 104 ≡ 115 = ap (λ t. slice_index t 0) (sym h.0 ∙ is) in absurd (omega (arith, bad))
@@ -599,7 +565,8 @@ module _ (asked : CallValue) (name : List ℕ) (f : Found) where
       go (isin code) h = let bad : 105 ≡ 104 = ap (λ t. slice_index t 0) (sym h.0 ∙ is) in absurd (omega (arith, bad))
       go (read mt) h = let bad : 114 ≡ 104 = ap (λ t. slice_index t 0) (sym h.0 ∙ is) in absurd (omega (arith, bad))
       go (play db) h = let bad : 112 ≡ 104 = ap (λ t. slice_index t 0) (sym h.0 ∙ is) in absurd (omega (arith, bad))
-      go check h = let bad : 99 ≡ 104 = ap (λ t. slice_index t 0) (sym h ∙ is) in absurd (omega (arith, bad))
+      go (trial db) h = let bad : 112 ≡ 104 = ap (λ t. slice_index t 0) (sym h.0 ∙ is) in absurd (omega (arith, bad))
+      go (check db format) h = let bad : 99 ≡ 104 = ap (λ t. slice_index t 0) (sym h.0 ∙ is) in absurd (omega (arith, bad))
       go (explain words) h = let bad : 101 ≡ 104 = ap (λ t. slice_index t 0) (sym h.0 ∙ is) in absurd (omega (arith, bad))
       go (serve db port count) h = let bad : 115 ≡ 104 = ap (λ t. slice_index t 0) (sym h.0 ∙ is) in absurd (omega (arith, bad))
       go (holdings db bic account) h = (db, bic, account, refl, first_value-rows f (codes "db") ∙ h.1, h.2, first_value-rows f (codes "bic") ∙ h.3, first_value-rows f (codes "account") ∙ h.4)
@@ -616,7 +583,8 @@ module _ (asked : CallValue) (name : List ℕ) (f : Found) where
       go (isin code) h = let bad : 105 ≡ 115 = ap (λ t. slice_index t 0) (sym h.0 ∙ is) in absurd (omega (arith, bad))
       go (read mt) h = let bad : 114 ≡ 115 = ap (λ t. slice_index t 0) (sym h.0 ∙ is) in absurd (omega (arith, bad))
       go (play db) h = let bad : 112 ≡ 115 = ap (λ t. slice_index t 0) (sym h.0 ∙ is) in absurd (omega (arith, bad))
-      go check h = let bad : 99 ≡ 115 = ap (λ t. slice_index t 0) (sym h ∙ is) in absurd (omega (arith, bad))
+      go (trial db) h = let bad : 112 ≡ 115 = ap (λ t. slice_index t 0) (sym h.0 ∙ is) in absurd (omega (arith, bad))
+      go (check db format) h = let bad : 99 ≡ 115 = ap (λ t. slice_index t 0) (sym h.0 ∙ is) in absurd (omega (arith, bad))
       go (explain words) h = let bad : 101 ≡ 115 = ap (λ t. slice_index t 0) (sym h.0 ∙ is) in absurd (omega (arith, bad))
       go (serve db port count) h = let bad : 101 ≡ 117 = ap (λ t. slice_index t 1) (sym h.0 ∙ is) in absurd (omega (arith, bad))
       go (holdings db bic account) h = let bad : 104 ≡ 115 = ap (λ t. slice_index t 0) (sym h.0 ∙ is) in absurd (omega (arith, bad))
@@ -635,7 +603,8 @@ module _ (asked : CallValue) (name : List ℕ) (f : Found) where
       go (isin code) h = let bad : 105 ≡ 100 = ap (λ t. slice_index t 0) (sym h.0 ∙ is) in absurd (omega (arith, bad))
       go (read mt) h = let bad : 114 ≡ 100 = ap (λ t. slice_index t 0) (sym h.0 ∙ is) in absurd (omega (arith, bad))
       go (play db) h = let bad : 112 ≡ 100 = ap (λ t. slice_index t 0) (sym h.0 ∙ is) in absurd (omega (arith, bad))
-      go check h = let bad : 99 ≡ 100 = ap (λ t. slice_index t 0) (sym h ∙ is) in absurd (omega (arith, bad))
+      go (trial db) h = let bad : 112 ≡ 100 = ap (λ t. slice_index t 0) (sym h.0 ∙ is) in absurd (omega (arith, bad))
+      go (check db format) h = let bad : 99 ≡ 100 = ap (λ t. slice_index t 0) (sym h.0 ∙ is) in absurd (omega (arith, bad))
       go (explain words) h = let bad : 101 ≡ 100 = ap (λ t. slice_index t 0) (sym h.0 ∙ is) in absurd (omega (arith, bad))
       go (serve db port count) h = let bad : 115 ≡ 100 = ap (λ t. slice_index t 0) (sym h.0 ∙ is) in absurd (omega (arith, bad))
       go (holdings db bic account) h = let bad : 104 ≡ 100 = ap (λ t. slice_index t 0) (sym h.0 ∙ is) in absurd (omega (arith, bad))
@@ -658,7 +627,8 @@ module _ (asked : CallValue) (name : List ℕ) (f : Found) where
       go (isin code) h = let bad : 105 ≡ 114 = ap (λ t. slice_index t 0) (sym h.0 ∙ is) in absurd (omega (arith, bad))
       go (read mt) h = let bad : 97 ≡ 112 = ap (λ t. slice_index t 2) (sym h.0 ∙ is) in absurd (omega (arith, bad))
       go (play db) h = let bad : 112 ≡ 114 = ap (λ t. slice_index t 0) (sym h.0 ∙ is) in absurd (omega (arith, bad))
-      go check h = let bad : 99 ≡ 114 = ap (λ t. slice_index t 0) (sym h ∙ is) in absurd (omega (arith, bad))
+      go (trial db) h = let bad : 112 ≡ 114 = ap (λ t. slice_index t 0) (sym h.0 ∙ is) in absurd (omega (arith, bad))
+      go (check db format) h = let bad : 99 ≡ 114 = ap (λ t. slice_index t 0) (sym h.0 ∙ is) in absurd (omega (arith, bad))
       go (explain words) h = let bad : 101 ≡ 114 = ap (λ t. slice_index t 0) (sym h.0 ∙ is) in absurd (omega (arith, bad))
       go (serve db port count) h = let bad : 115 ≡ 114 = ap (λ t. slice_index t 0) (sym h.0 ∙ is) in absurd (omega (arith, bad))
       go (holdings db bic account) h = let bad : 104 ≡ 114 = ap (λ t. slice_index t 0) (sym h.0 ∙ is) in absurd (omega (arith, bad))
@@ -694,9 +664,6 @@ module _ (asked : CallValue) (name : List ℕ) (f : Found) where
       let same : db ≡ n.0 = cc in
       ap sums same ∙ sym n.1
 
-  pub same_play : (db : Option (List ℕ)) → name ≡ codes "play" → db ≡ first_value f (codes "db") → IsSpelledOut asked name (rows_of f) → play db ≡ asked
-  same_play db is file named = let n = named_play is named in ap play (file ∙ n.2) ∙ sym n.1
-
   pub no_code : name ≡ codes "isin" → None ≡ first_value f (codes "code") → IsSpelledOut asked name (rows_of f) → ⊥
   no_code is none named = let n = named_isin is named in let bad : None ≡ Some n.0 = none ∙ n.2 in cc
 
@@ -718,24 +685,6 @@ module _ (asked : CallValue) (name : List ℕ) (f : Found) where
 pub none_said : {X : Type 0} (found : Option X) (P : X → Type 0) → found ≡ None → IfSome found P
 none_said found P none = rw none tt
 
--- `check` has no other words
-pub same_check : (asked : CallValue) (name : List ℕ) (rows : List Row) → name ≡ codes "check" → IsSpelledOut asked name rows → check ≡ asked
-same_check asked name rows is spelled = go asked spelled
-  where
-    go : (a : CallValue) → IsSpelledOut a name rows → check ≡ a
-    go (isin code) h = let bad : 105 ≡ 99 = ap (λ t. slice_index t 0) (sym h.0 ∙ is) in absurd (omega (arith, bad))
-    go (read mt) h = let bad : 114 ≡ 99 = ap (λ t. slice_index t 0) (sym h.0 ∙ is) in absurd (omega (arith, bad))
-    go (play db) h = let bad : 112 ≡ 99 = ap (λ t. slice_index t 0) (sym h.0 ∙ is) in absurd (omega (arith, bad))
-    go check h = refl
-    go (explain words) h = let bad : 101 ≡ 99 = ap (λ t. slice_index t 0) (sym h.0 ∙ is) in absurd (omega (arith, bad))
-    go (serve db port count) h = let bad : 115 ≡ 99 = ap (λ t. slice_index t 0) (sym h.0 ∙ is) in absurd (omega (arith, bad))
-    go (holdings db bic account) h = let bad : 104 ≡ 99 = ap (λ t. slice_index t 0) (sym h.0 ∙ is) in absurd (omega (arith, bad))
-    go (sums db) h = let bad : 115 ≡ 99 = ap (λ t. slice_index t 0) (sym h.0 ∙ is) in absurd (omega (arith, bad))
-    go (report db parts format) h = let bad : 114 ≡ 99 = ap (λ t. slice_index t 0) (sym h.0 ∙ is) in absurd (omega (arith, bad))
-    go (journal db from format) h = let bad : 106 ≡ 99 = ap (λ t. slice_index t 0) (sym h.0 ∙ is) in absurd (omega (arith, bad))
-    go (folder db from to) h = let bad : 100 ≡ 99 = ap (λ t. slice_index t 0) (sym h.0 ∙ is) in absurd (omega (arith, bad))
-    go (migrate old fresh) h = let bad : 109 ≡ 99 = ap (λ t. slice_index t 0) (sym h.0 ∙ is) in absurd (omega (arith, bad))
-
 -- nothing is asked for by another word
 pub no_word : (asked : CallValue) (name : List ℕ) (rows : List Row)
     → (name ≡ codes "isin" → ⊥) → (name ≡ codes "read" → ⊥) → (name ≡ codes "play" → ⊥) → (name ≡ codes "check" → ⊥) → (name ≡ codes "explain" → ⊥) → (name ≡ codes "serve" → ⊥) → (name ≡ codes "holdings" → ⊥) → (name ≡ codes "sums" → ⊥) → (name ≡ codes "report" → ⊥) → (name ≡ codes "journal" → ⊥) → (name ≡ codes "drop" → ⊥) → (name ≡ codes "migrate" → ⊥)
@@ -743,7 +692,8 @@ pub no_word : (asked : CallValue) (name : List ℕ) (rows : List Row)
 no_word (isin code) name rows other _ _ _ _ _ _ _ _ _ _ _ named = other named.0
 no_word (read mt) name rows _ other _ _ _ _ _ _ _ _ _ _ named = other named.0
 no_word (play db) name rows _ _ other _ _ _ _ _ _ _ _ _ named = other named.0
-no_word check name rows _ _ _ other _ _ _ _ _ _ _ _ named = other named
+no_word (trial db) name rows _ _ other _ _ _ _ _ _ _ _ _ named = other named.0
+no_word (check db format) name rows _ _ _ other _ _ _ _ _ _ _ _ named = other named.0
 no_word (explain words) name rows _ _ _ _ other _ _ _ _ _ _ _ named = other named.0
 no_word (serve db port count) name rows _ _ _ _ _ other _ _ _ _ _ _ named = other named.0
 no_word (holdings db bic account) name rows _ _ _ _ _ _ other _ _ _ _ _ named = other named.0
@@ -845,9 +795,6 @@ pub said_service : (name : List ℕ) (f : Found) (db : Option (List ℕ)) (port 
 said_service name f db port count is file ports counts =
     let P : ℕ → Option (List ℕ) → Type 0 = λ number found. IsSomeAnd found (IsNumberText number) in
     (is, sym (first_value-rows f (codes "db")) ∙ sym file, subst (P port) (one_text-rows f (codes "port")) ports, subst (P count) (one_text-rows f (codes "count")) counts)
-
-pub said_play : (name : List ℕ) (f : Found) (db : Option (List ℕ)) → name ≡ codes "play" → db ≡ first_value f (codes "db") → IsSaid (play db) name (rows_of f)
-said_play name f db is file = (is, sym (first_value-rows f (codes "db")) ∙ sym file)
 
 pub said_held : (name : List ℕ) (f : Found) (db bic account : List ℕ) → name ≡ codes "holdings" → first_value f (codes "db") ≡ Some db → IsSomeAnd (first_value f (codes "bic")) (IsBicText bic)
     → first_value f (codes "account") ≡ Some account → IsSaid (holdings db bic account) name (rows_of f)

@@ -16,18 +16,19 @@ use Rattle.desk_report.specs.declared.format.Format.{Format}
 use Rattle.desk_report.specs.declared.format.Format.TheVariants.{Json, Text}
 use Rattle.desk_words.specs.declared.calls.Call.{Call}
 use Rattle.desk_words.specs.Topics.{words_quoted}
-use Rattle.desk_words.specs.declared.calls.Call.TheVariants.{Isin, Read, Play, PlayOn, Check, Explain, Serve, ServeOn, Holdings, Sums, Report, ReportOn, Journal, JournalOn, Folder, Migrate}
+use Rattle.desk_words.specs.declared.calls.Call.TheVariants.{Isin, Read, Play, PlayOn, TryOn, Check, CheckOn, Explain, Serve, ServeOn, Holdings, Sums, Report, ReportOn, Journal, JournalOn, Folder, Migrate}
 
--- what is asked for: whether a code is an ISIN, what a message of a type says, a script's answers, what is refused in
--- a script, what an answer of these words means, to serve so many connections at a port, what a participant's account holds,
--- the totals, what stands at this moment, the accepted entries from a number on, or all of them, or the answers to the
--- files of a folder; of the desk of a file, or of one in memory where no file is named; or to bring a file of an earlier
--- version over into a new one
+-- what is asked for: whether a code is an ISIN, what a message of a type says, a script's answers, those that the desk of a
+-- file would give, which stays as it is, what is refused in a script, where such a file stays too, what an answer of
+-- these words means, to serve so many connections at a port, what a participant's account holds, the totals, what stands at
+-- this moment, the accepted entries from a number on, or all of them, or the answers to the files of a folder; of the desk of
+-- a file, or of one in memory where no file is named; or to bring a file of an earlier version over into a new one
 pub data CallValue : Type 0 where
   isin : (code : List ℕ) → CallValue
   read : (mt : Mt) → CallValue
   play : (db : Option (List ℕ)) → CallValue
-  check : CallValue
+  trial : (db : List ℕ) → CallValue
+  check : (db : Option (List ℕ)) (format : Format) → CallValue
   explain : (words : List (List ℕ)) → CallValue
   serve : (db : Option (List ℕ)) (port count : ℕ) → CallValue
   holdings : (db bic account : List ℕ) → CallValue
@@ -42,7 +43,9 @@ value_of_call (Isin code) = isin code.now
 value_of_call (Read mt) = read mt
 value_of_call Play = play None
 value_of_call (PlayOn db) = play (Some db.now)
-value_of_call Check = check
+value_of_call (TryOn db) = trial db.now
+value_of_call (Check format) = check None format
+value_of_call (CheckOn db format) = check (Some db.now) format
 value_of_call (Explain quoted) = explain (words_quoted quoted)
 value_of_call (Serve port count) = serve None port count
 value_of_call (ServeOn db port count) = serve (Some db.now) port count
@@ -96,7 +99,12 @@ ArePartWords named = All (λ word. is_part_word word ≡ true) named
 abbrev pub ArePartsOf : Parts → List (List ℕ) → Type 0
 ArePartsOf parts named = ArePartWords named × (parts ≡ parts_by named)
 
--- JSON where the flag is given, by the word that the parser of words has for that; text where it is not
+-- the flag is given, by the word that the parser of words has for that, or is not
+abbrev pub IsFlagGiven : Bool → Option (List ℕ) → Type 0
+IsFlagGiven true flag = flag ≡ Some (codes "true")
+IsFlagGiven false flag = flag ≢ Some (codes "true")
+
+-- JSON where the flag is given; text where it is not
 abbrev pub IsFormatOf : Format → Option (List ℕ) → Type 0
 IsFormatOf Json flag = flag ≡ Some (codes "true")
 IsFormatOf Text flag = flag ≢ Some (codes "true")
@@ -136,7 +144,8 @@ abbrev pub words_for : CallValue → List (List ℕ)
 words_for (isin code) = codes "isin" ∷ code ∷ []
 words_for (read mt) = codes "read" ∷ digits_of_type mt ∷ []
 words_for (play db) = codes "play" ∷ words_of_file db []
-words_for check = codes "check" ∷ []
+words_for (trial db) = codes "play" ∷ words_of_file (Some db) (codes "--dry-run" ∷ [])
+words_for (check db format) = codes "check" ∷ words_of_file db (words_of_format format [])
 words_for (explain words) = codes "explain" ∷ words
 words_for (serve db port count) = codes "serve" ∷ words_of_file db (codes "--port" ∷ decimal port ∷ codes "--count" ∷ decimal count ∷ [])
 words_for (holdings db bic account) = codes "holdings" ∷ words_of_file (Some db) (bic ∷ account ∷ [])
@@ -170,7 +179,8 @@ abbrev pub IsAskable : CallValue → Type 0
 IsAskable (isin code) = IsNoOption code
 IsAskable (read mt) = is_instruction mt ≡ true
 IsAskable (play db) = IsNoOptionIn db
-IsAskable check = Unit {0}
+IsAskable (trial db) = IsNoOption db
+IsAskable (check db format) = IsNoOptionIn db
 IsAskable (explain words) = (length words ≤ 3) × All IsNoOption words
 IsAskable (serve db port count) = IsNoOptionIn db × ((1 ≤ port) × (port ≤ 65535)) × (1 ≤ count) × (count ≤ 1000000)
 IsAskable (holdings db bic account) = IsNoOption db × IsBic bic × IsNoOption account
@@ -200,12 +210,18 @@ words_found first second third = found_before first (found_before second (found_
 abbrev pub answer_words_in : List Row → List (List ℕ)
 answer_words_in rows = words_found (first_of (codes "word") rows) (first_of (codes "second") rows) (first_of (codes "third") rows)
 
+-- a play without a file, or on this one, which is not a trial
+abbrev pub IsPlayOf : Option (List ℕ) → List Row → Type 0
+IsPlayOf None rows = first_of (codes "db") rows ≡ None
+IsPlayOf (Some db) rows = (first_of (codes "db") rows ≡ Some db) × IsFlagGiven false (one_of (codes "dry-run") rows)
+
 -- what a subcommand's name and matches ask for, spelled out as `words_for` spells it
 abbrev pub IsSpelledOut : CallValue → List ℕ → List Row → Type 0
 IsSpelledOut (isin code) name rows = (name ≡ codes "isin") × (first_of (codes "code") rows ≡ Some code)
 IsSpelledOut (read mt) name rows = (name ≡ codes "read") × (one_of (codes "mt") rows ≡ Some (digits_of_type mt)) × (is_instruction mt ≡ true)
-IsSpelledOut (play db) name rows = (name ≡ codes "play") × (first_of (codes "db") rows ≡ db)
-IsSpelledOut check name rows = name ≡ codes "check"
+IsSpelledOut (play db) name rows = (name ≡ codes "play") × IsPlayOf db rows
+IsSpelledOut (trial db) name rows = (name ≡ codes "play") × (first_of (codes "db") rows ≡ Some db) × IsFlagGiven true (one_of (codes "dry-run") rows)
+IsSpelledOut (check db format) name rows = (name ≡ codes "check") × (first_of (codes "db") rows ≡ db) × IsFormatOf format (one_of (codes "json") rows)
 IsSpelledOut (explain words) name rows = (name ≡ codes "explain") × (words ≡ answer_words_in rows)
 IsSpelledOut (serve db port count) name rows =
     (name ≡ codes "serve") × (first_of (codes "db") rows ≡ db) × (one_of (codes "port") rows ≡ Some (decimal port)) × (port < 2 ^ 16) × (one_of (codes "count") rows ≡ Some (decimal count)) × (count < 2 ^ 32)
@@ -240,11 +256,17 @@ db_rule = record (new_rule (codes "db")) { long = Some (codes "db"); value_names
 abbrev pub needed_db_rule : Rule
 needed_db_rule = record (new_rule (codes "db")) { long = Some (codes "db"); value_names = 1; required = true }
 
+abbrev pub dry_rule : Rule
+dry_rule = record (new_rule (codes "dry-run")) { long = Some (codes "dry-run"); action = Some SetTrue }
+
 abbrev pub play_app : App
-play_app = with_rule (new_app (codes "play")) db_rule
+play_app = with_rule (with_rule (new_app (codes "play")) db_rule) dry_rule
+
+abbrev pub json_rule : Rule
+json_rule = record (new_rule (codes "json")) { long = Some (codes "json"); action = Some SetTrue }
 
 abbrev pub check_app : App
-check_app = new_app (codes "check")
+check_app = with_rule (with_rule (new_app (codes "check")) json_rule) db_rule
 
 abbrev pub word_rule : List ℕ → Rule
 word_rule name = record (new_rule name) { value_names = 1 }
@@ -275,9 +297,6 @@ sums_app = with_rule (new_app (codes "sums")) needed_db_rule
 
 abbrev pub part_rule : Rule
 part_rule = record (new_rule (codes "part")) { value_names = 1; action = Some Append }
-
-abbrev pub json_rule : Rule
-json_rule = record (new_rule (codes "json")) { long = Some (codes "json"); action = Some SetTrue }
 
 abbrev pub report_app : App
 report_app = with_rule (with_rule (with_rule (new_app (codes "report")) part_rule) json_rule) db_rule
@@ -336,8 +355,9 @@ IsFrom (Some number) first one = IsSomeAnd one (IsNumberText number)
 abbrev pub IsSaid : CallValue → List ℕ → List Row → Type 0
 IsSaid (isin code) name rows = (name ≡ codes "isin") × (first_of (codes "code") rows ≡ Some code)
 IsSaid (read mt) name rows = (name ≡ codes "read") × IsSomeAnd (one_of (codes "mt") rows) (IsTypeText mt)
-IsSaid (play db) name rows = (name ≡ codes "play") × (first_of (codes "db") rows ≡ db)
-IsSaid check name rows = name ≡ codes "check"
+IsSaid (play db) name rows = (name ≡ codes "play") × IsPlayOf db rows
+IsSaid (trial db) name rows = (name ≡ codes "play") × (first_of (codes "db") rows ≡ Some db) × IsFlagGiven true (one_of (codes "dry-run") rows)
+IsSaid (check db format) name rows = (name ≡ codes "check") × (first_of (codes "db") rows ≡ db) × IsFormatOf format (one_of (codes "json") rows)
 IsSaid (explain words) name rows = (name ≡ codes "explain") × (words ≡ answer_words_in rows)
 IsSaid (serve db port count) name rows =
     (name ≡ codes "serve") × (first_of (codes "db") rows ≡ db) × IsSomeAnd (one_of (codes "port") rows) (IsNumberText port) × IsSomeAnd (one_of (codes "count") rows) (IsNumberText count)

@@ -4,7 +4,7 @@ ghost use Rattle.clap.specs.Words.{first_value, found_of, kind_of, one_text, row
 ghost use Rattle.desk_codes.specs.Bic.{IsBic};
 ghost use Rattle.desk_msg.specs.MessageType.{digits_of_type, is_instruction, number_of_type};
 ghost use Rattle.desk_msg.specs.declared.mt.Mt.{Mt};
-ghost use Rattle.desk_words.specs.Words.{ArePartWords, ArePartsOf, CallValue, IsAskable, IsBicText, IsErrorIn, IsFormatOf, IsFrom, IsFromSpelledOut, IsNoOptionIn, IsSpelledOut, ReadsOnlyInstructions, IsSaid, IsSaidBy, IsSaidIn, IsNumberText, IsTypeText, is_part_word, is_told, part_words_in, parts_by, report_words, value_of_call, words_for, words_found};
+ghost use Rattle.desk_words.specs.Words.{ArePartWords, ArePartsOf, CallValue, IsAskable, IsBicText, IsErrorIn, IsFlagGiven, IsFormatOf, IsFrom, IsFromSpelledOut, IsNoOptionIn, IsSpelledOut, ReadsOnlyInstructions, IsSaid, IsSaidBy, IsSaidIn, IsNumberText, IsTypeText, is_part_word, is_told, part_words_in, parts_by, report_words, value_of_call, words_for, words_found};
 ghost use Rattle.desk_words.specs.Topics.{words_quoted};
 
 use crate::helps::NO_PART;
@@ -33,8 +33,12 @@ pub enum Call<'a> {
     Play,
     /// A script's answers, on the desk of a file
     PlayOn(&'a str),
-    /// What is refused in a script
-    Check,
+    /// A script's answers, by the desk of a file, which stays as it is
+    TryOn(&'a str),
+    /// What is refused in a script, on a desk in memory, written so
+    Check(Format),
+    /// The same, by the desk of a file, which stays as it is
+    CheckOn(&'a str, Format),
     /// What is told in place of an answer of these words, explained
     Explain(Quoted<'a>),
     /// Requests over HTTP at a port of 127.0.0.1, of so many connections, on a desk in memory
@@ -130,7 +134,7 @@ fn subcommand_call<'a>(name: &str, inner: &ArgMatches<'a>) -> Option<Call<'a>>
         "isin" => Some(Call::Isin(inner.get_str("code")?)),
         "read" => Some(Call::Read(type_in(inner)?)),
         "play" => Some(play_call(inner)),
-        "check" => Some(Call::Check),
+        "check" => Some(check_call(inner)),
         "explain" => Some(Call::Explain(quoted_in(inner))),
         "serve" => serve_call(inner),
         "holdings" => holdings_call(inner),
@@ -164,15 +168,36 @@ fn quoted_in<'a>(inner: &ArgMatches<'a>) -> Quoted<'a>
     }
 }
 
-/// A script, on the desk of the file that is named, if one is.
+/// A script, on the desk of the file that is named, if one is; where it is a dry run, by that desk, which stays as it is.
 fn play_call<'a>(inner: &ArgMatches<'a>) -> Call<'a>
     ensures readable { ReadsOnlyInstructions result }
     ensures said { IsSaid (value_of_call result) (codes "play") (rows_of (found_of inner.now)) }
     ensures asked { (asked : CallValue) → IsSpelledOut asked (codes "play") (rows_of (found_of inner.now)) → value_of_call result ≡ asked }
 {
     match inner.get_str("db") {
+        Some(db) if is_dry(inner) => Call::TryOn(db),
         Some(db) => Call::PlayOn(db),
         None => Call::Play,
+    }
+}
+
+/// Whether nothing is to be kept.
+fn is_dry(inner: &ArgMatches) -> bool
+    ensures { IsFlagGiven result (one_text (found_of inner.now) (codes "dry-run")) }
+{
+    inner.get_one::<bool>("dry-run").unwrap_or(false)
+}
+
+/// What is refused in a script, by the desk of the file that is named, if one is.
+fn check_call<'a>(inner: &ArgMatches<'a>) -> Call<'a>
+    ensures readable { ReadsOnlyInstructions result }
+    ensures said { IsSaid (value_of_call result) (codes "check") (rows_of (found_of inner.now)) }
+    ensures asked { (asked : CallValue) → IsSpelledOut asked (codes "check") (rows_of (found_of inner.now)) → value_of_call result ≡ asked }
+{
+    let format = format_in(inner);
+    match inner.get_str("db") {
+        Some(db) => Call::CheckOn(db, format),
+        None => Call::Check(format),
     }
 }
 

@@ -65,6 +65,8 @@ With --db the desk is the one of that file: it goes on where it ended, and the f
 is answered `accepted`, whatever happens then. Where there is no file it is made. A file that is none of a
 desk's is `fault 50`, and its bytes stay; one that cannot be opened, or is in use, is `fault 61`; standard
 error tells more. Without --db the desk is in memory, and is gone at the end.
+With --dry-run the script is played over what the file holds, in memory: nothing is changed in the file, and
+the answers are those that its desk would give. Where there is no file none is made, and it is `fault 61`.
 
 Example:
   ./desk play --db day.db < examples/day/day.script";
@@ -77,6 +79,11 @@ cannot be read, or what the number means; behind that, where they are known, the
 the fault stands and the reference that the request gives itself. What is not printable is shown as `?`. At
 its end it prints how many tell each number, and how many requests there were. Its status is 1 where any was
 refused, and 0 where none was.
+With --json it is one JSON object on a line: `counts`, an array of rows with `answer` and `count`; `refused`,
+an array with a row for each line told otherwise: `answer`, `line`, `reference` (null where there is none),
+`said`, `why` and `within` (the line where the fault stands, null where it is not told); and `requests`.
+With --db the script is played over what that file holds, in memory: nothing is changed in the file, and what
+is told is what its desk would answer. Where there is no file none is made, and it is `fault 61`.
 
 Example:
   ./desk check < examples/day/day.script | tail -n 5";

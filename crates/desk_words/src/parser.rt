@@ -84,13 +84,13 @@ const SUBCOMMANDS: [Subcommand<'static>; 12] = [
         name: "play",
         about: "Plays a script of requests from standard input on the desk of a file, or one in memory (the default)",
         after: PLAY,
-        arguments: &[MADE],
+        arguments: &[MADE, DRY],
     },
     Subcommand {
         name: "check",
         about: "Plays a script as play does, and tells what is refused in it, and why",
         after: CHECK,
-        arguments: &[],
+        arguments: &[JSON, KEPT],
     },
     Subcommand {
         name: "explain",
@@ -294,6 +294,26 @@ const SHOWN: Argument<'static> = Argument {
     is_needed: false,
     value: "FILE",
     help: "The desk's file, which is there; without it a script is played",
+    range: None,
+};
+
+/// One that is there and stays, or a desk in memory where none is named
+const KEPT: Argument<'static> = Argument {
+    name: "db",
+    form: Form::Named,
+    is_needed: false,
+    value: "FILE",
+    help: "The desk's file, which is there and stays as it is; without it a desk in memory",
+    range: None,
+};
+
+/// Of a play of which nothing is kept
+const DRY: Argument<'static> = Argument {
+    name: "dry-run",
+    form: Form::Flag,
+    is_needed: false,
+    value: "",
+    help: "Keep nothing: the file stays as it is",
     range: None,
 };
 

@@ -1,5 +1,5 @@
 //! `desk migrate`.
-ghost use Rattle.std.specs.Prelude.{◌≡◌, true, false, length, IfErr, IfOk, IfSome, IsSomeAnd, OnErr, OnOk};
+ghost use Rattle.std.specs.Prelude.{◌≡◌, true, false, length, IfErr, IfOk, IfSome, IsOkAnd, IsSomeAnd, OnErr, OnOk};
 ghost use Rattle.std.specs.Io.KnownBytes.{Appends};
 ghost use Rattle.sqlite.specs.Files.{over_files};
 ghost use Rattle.sqlite.specs.Held.{state};
@@ -20,7 +20,7 @@ use crate::status::{Failure, Status, tell_failure};
 use crate::store::{FileRegister, close, connection_of, remove_log};
 use crate::teller::Teller;
 use desk_engine::{Failure as Undoing, rebuild};
-use desk_file::{Difference, MirroredRegister, OpenFault, Silent, open_file};
+use desk_file::{Difference, MirroredRegister, OpenFault, open_file};
 use desk_old::old_entries;
 use desk_register::{Fault, Register};
 use desk_rules::{Entry, MOST_ENTRIES};
@@ -58,7 +58,7 @@ pub struct Migrated<A: Disk, B: Disk> {
 /// A file that was made.
 #[derive(Drop)]
 pub struct Made<D: Disk> {
-    /// What was closed of it, or its store where that could not be
+    /// What was closed of it; by contract never its store, which would stand here where it could not be
     pub files: Result<Files<D>, FileStore<D>>,
 }
 
@@ -106,7 +106,7 @@ fn read_and_put<A: Start, B: Start>(
     ensures failure { IfErr result IsOpeningFailure }
 {
     let (entries, read) = read_alone(rt, paths.old, held)?;
-    match put_new(rt, paths.new, start, &entries) {
+    match made_file(rt, paths, start, &entries) {
         Ok(made) => Ok(Migrated {
             entries,
             read,
@@ -157,9 +157,9 @@ fn read_old<A: Start>(
     }
     let mut teller = Teller::new(rt, path);
     match old_entries(rt, path, held, &mut teller) {
-        Ok(found) => Ok(found),
+        Ok(read) => Ok(read),
         Err((fault, left)) => {
-            teller.unopened(fault, left.is_some());
+            teller.unread(fault, left.is_some());
             Err(Failure::from(fault))
         }
     }
@@ -172,61 +172,26 @@ fn look_at_old(rt: &HostRuntime, path: &str) -> Result<(), Failure>
     match holds_bytes(rt, path) {
         Ok(true) => Ok(()),
         Ok(false) => {
-            let failure = Failure::from(OpenFault::NotOurFile(Difference::NoDatabase));
-            tell_failed(
-                rt,
-                path,
-                failure,
-                "there is no such file, or it holds nothing",
-            );
-            Err(failure)
+            Teller::new(rt, path).refused("there is no such file, or it holds nothing");
+            Err(Failure::from(OpenFault::NotOurFile(Difference::NoDatabase)))
         }
-        Err(error) => {
-            let failure = failure_of(&error);
-            tell_failed(rt, path, failure, "");
-            Err(failure)
-        }
+        Err(error) => Err(hindered_at(rt, path, "it cannot be looked at", &error)),
     }
 }
 
-/// Puts a history into a new file. Where it cannot, standard error says why.
-fn put_new<B: Start>(
-    rt: &HostRuntime,
-    path: &str,
-    start: B,
-    entries: &[Entry],
-) -> Result<Made<FileFrom<B>>, Failure>
-    requires accepted { AreHistory entries.now }
-    ensures holds { IfOk result (λ made. HoldHistory made.files entries.now) }
-    ensures failure { IfErr result IsOpeningFailure }
+/// Tells in what a call of the system failed, and gives what that comes to.
+fn hindered_at(rt: &HostRuntime, path: &str, words: &str, error: &io::Error) -> Failure
+    ensures { IsOpeningFailure result }
 {
-    match made_file(rt, path, start, entries) {
-        Ok(made) => Ok(made),
-        Err(failure) => {
-            tell_failed(rt, path, failure, "it is there already, or a log beside it");
-            Err(failure)
-        }
-    }
-}
-
-/// Tells why a file is not read, or not made; `difference` says why it is none that may be.
-fn tell_failed(rt: &HostRuntime, path: &str, failure: Failure, difference: &str) {
-    let fault = match failure {
-        Failure::Memory => OpenFault::Memory,
-        Failure::NotOurFile => {
-            let _ = eprintln!(rt; "desk: {path}: fault 50: {difference}");
-            return;
-        }
-        _ => OpenFault::Storage,
-    };
-    Teller::new(rt, path).unopened(fault, false);
+    Teller::new(rt, path).hindered(words, error);
+    failure_of(error)
 }
 
 /// Makes a new file of a history under another name, and renames it once it is whole and closed: so it stands at its name whole, or
 /// not at all.
 fn made_file<B: Start>(
     rt: &HostRuntime,
-    path: &str,
+    paths: Paths<'_>,
     start: B,
     entries: &[Entry],
 ) -> Result<Made<FileFrom<B>>, Failure>
@@ -234,27 +199,56 @@ fn made_file<B: Start>(
     ensures holds { IfOk result (λ made. HoldHistory made.files entries.now) }
     ensures failure { IfErr result IsOpeningFailure }
 {
-    let unfinished = free_place(rt, path)?;
+    let unfinished = free_place(rt, paths)?;
     let made = filled_file(rt, unfinished.as_str(), start, entries)?;
-    match fs::rename(rt, unfinished.as_str(), path) {
+    match fs::rename(rt, unfinished.as_str(), paths.new) {
         Ok(()) => Ok(made),
-        Err(error) => Err(failure_of(&error)),
+        Err(error) => Err(hindered_at(rt, paths.new, "it cannot be put there", &error)),
     }
 }
 
-/// The path at which a new file is made. Where a file that holds something stands at its own, or a log beside it, there is none.
-fn free_place(rt: &HostRuntime, path: &str) -> Result<String, Failure>
+/// The path at which a new file is made. Where a file that holds something stands at its own, or a log beside it, there is none, and
+/// none where the old file would be removed for it.
+fn free_place(rt: &HostRuntime, paths: Paths<'_>) -> Result<String, Failure>
     ensures { IfErr result IsOpeningFailure }
 {
-    match is_taken(rt, path) {
-        Ok(true) => return Err(Failure::NotOurFile),
+    match is_in_the_way(rt, paths) {
+        Ok(true) => {
+            let teller = Teller::new(rt, paths.new);
+            teller.refused(
+                "it, or a log beside it, is there already, or OLD stands where it is made",
+            );
+            return Err(Failure::NotOurFile);
+        }
         Ok(false) => {}
-        Err(error) => return Err(failure_of(&error)),
+        Err(error) => return Err(hindered_at(rt, paths.new, "it cannot be looked at", &error)),
     }
-    match cleared_place(rt, path) {
+    match cleared_place(rt, paths.new) {
         Ok(unfinished) => Ok(unfinished),
-        Err(error) => Err(failure_of(&error)),
+        Err(error) => Err(hindered_at(rt, paths.new, "what was left of it stays", &error)),
     }
+}
+
+/// Whether something stands in the way of a new file that may not be removed.
+fn is_in_the_way(rt: &HostRuntime, paths: Paths<'_>) -> io::Result<bool> {
+    Ok(is_taken(rt, paths.new)? || is_made_over_old(rt, paths)?)
+}
+
+/// Whether the new file, or its log, is made where the old file stands.
+fn is_made_over_old(rt: &HostRuntime, paths: Paths<'_>) -> io::Result<bool> {
+    let unfinished = unfinished_of(rt, paths.new)?;
+    let log = format!(in rt.alloc(); "{unfinished}-wal")?;
+    Ok(is_same(rt, paths.old, unfinished.as_str())? || is_same(rt, paths.old, log.as_str())?)
+}
+
+/// Whether two paths lead to one file; the first leads to some.
+fn is_same(rt: &HostRuntime, path: &str, other: &str) -> io::Result<bool> {
+    if !fs::exists(rt, other)? {
+        return Ok(false);
+    }
+    let first = fs::canonicalize(rt, path)?;
+    let second = fs::canonicalize(rt, other)?;
+    Ok(first.as_str() == second.as_str())
 }
 
 /// Whether a file that holds something stands at a path, or a log beside it.
@@ -274,11 +268,16 @@ fn holds_bytes(rt: &HostRuntime, path: &str) -> io::Result<bool> {
 
 /// The path at which a new file is made, once what a killed run left there is removed.
 fn cleared_place(rt: &HostRuntime, path: &str) -> io::Result<String> {
-    let unfinished = format!(in rt.alloc(); "{path}{UNFINISHED}")?;
-    let log = format!(in rt.alloc(); "{path}{UNFINISHED}-wal")?;
+    let unfinished = unfinished_of(rt, path)?;
+    let log = format!(in rt.alloc(); "{unfinished}-wal")?;
     make_way(rt, Path::new(unfinished.as_str()))?;
     make_way(rt, Path::new(log.as_str()))?;
     Ok(unfinished)
+}
+
+/// Where the new file of a path is made.
+fn unfinished_of(rt: &HostRuntime, path: &str) -> io::Result<String> {
+    Ok(format!(in rt.alloc(); "{path}{UNFINISHED}")?)
 }
 
 /// What is told of a file that cannot be made.
@@ -302,9 +301,13 @@ fn filled_file<B: Start>(
     ensures holds { IfOk result (λ made. HoldHistory made.files entries.now) }
     ensures failure { IfErr result IsOpeningFailure }
 {
-    match open_file(rt, path, start, MOST_ENTRIES, &mut Silent) {
+    let mut teller = Teller::new(rt, path);
+    match open_file(rt, path, start, MOST_ENTRIES, &mut teller) {
         Ok(both) => fill_and_close(rt, path, both, entries),
-        Err((fault, _)) => Err(Failure::from(fault)),
+        Err((fault, left)) => {
+            teller.unopened(fault, left.is_some());
+            Err(Failure::from(fault))
+        }
     }
 }
 
@@ -324,6 +327,7 @@ fn fill_and_close<D: Disk + Drop>(
     match filled {
         Ok(()) => close_made(rt, path, conn),
         Err(failure) => {
+            Teller::new(rt, path).unfilled(failure);
             close_unfilled(rt, path, conn);
             Err(failure)
         }
@@ -344,12 +348,15 @@ fn close_made<D: Disk + Drop>(
     path: &str,
     conn: Connection<FileStore<D>>,
 ) -> Result<Made<D>, Failure>
-    ensures closed { IfOk result (λ made. IfOk made.files (AreClosed conn)) }
+    ensures closed { IfOk result (λ made. IsOkAnd made.files (AreClosed conn)) }
     ensures failure { IfErr result IsOpeningFailure }
 {
     match close(rt, path, conn) {
         Ok(files) => Ok(Made { files: Ok(files) }),
-        Err(_store) => Err(Failure::Storage),
+        Err(_store) => {
+            Teller::new(rt, path).unclosed();
+            Err(Failure::Storage)
+        }
     }
 }
 

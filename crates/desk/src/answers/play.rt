@@ -1,10 +1,14 @@
 //! `desk play`.
 ghost use Rattle.std.specs.Prelude.{◌≡◌, true, false, Ok, Err, IfOk, OnErr, OnOk};
 ghost use Rattle.std.specs.Io.KnownBytes.{Appends};
+ghost use Rattle.desk_rules.specs.Books.{Books};
 ghost use Rattle.desk_rules.specs.declared.limits.TheConstants.{MOST_ENTRIES};
+ghost use Rattle.desk_engine.specs.Applied.{no_books};
+ghost use Rattle.desk_engine.specs.Ready.{IsReady};
+ghost use Rattle.memory_register.specs.ListsView.{view_of_lists};
 ghost use Rattle.desk_register.specs.View.{IsLater};
 ghost use Rattle.desk.specs.Left.{IsLeft};
-ghost use Rattle.desk.specs.PlayAnswer.{AreHeld, IsPlayAnswer, IsPlayTold, PlaysFrom};
+ghost use Rattle.desk.specs.PlayAnswer.{AreHeld, IsPlayAnswer, IsPlayTold, KeptBy, PlaysFrom};
 
 use crate::status::{Failure, Status, tell_failure};
 use desk_book::{Desk, PlayFault};
@@ -23,10 +27,27 @@ pub fn answer_play<R: Source, W: Sink>(
     reader: &mut R,
     writer: &mut W,
 ) -> io::Result<Status>
-    ensures told { IfOk result (λ status. IsPlayAnswer (R.remaining reader.old) (reader.new ≡ reader.old) R.may_fail status (Appends (W.contents writer.old) (W.contents writer.new))) }
+    ensures told { IfOk result (λ status. IsPlayAnswer no_books (R.remaining reader.old) (reader.new ≡ reader.old) R.may_fail status (Appends (W.contents writer.old) (W.contents writer.new))) }
     ensures failed { OnErr result (W.may_fail ≡ true) }
 {
-    let mut desk = Desk::new(ListRegister::new(alloc, MOST_ENTRIES));
+    let memory = ListRegister::new(alloc, MOST_ENTRIES);
+    play_on(alloc, memory, reader, writer)
+}
+
+/// The same on the desk of a register in memory.
+pub fn play_on<R: Source, W: Sink>(
+    alloc: Global,
+    memory: ListRegister,
+    reader: &mut R,
+    writer: &mut W,
+) -> io::Result<Status>
+    requires ready { IsReady false (view_of_lists memory) }
+    requires room { (view_of_lists memory).room ≡ MOST_ENTRIES }
+    ensures told { (books : Books) → KeptBy (view_of_lists memory) books
+        → IfOk result (λ status. IsPlayAnswer books (R.remaining reader.old) (reader.new ≡ reader.old) R.may_fail status (Appends (W.contents writer.old) (W.contents writer.new))) }
+    ensures failed { OnErr result (W.may_fail ≡ true) }
+{
+    let mut desk = Desk::new(memory);
     tell_played(desk.play(alloc, reader, writer), writer)
 }
 

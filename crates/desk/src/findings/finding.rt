@@ -2,7 +2,7 @@
 ghost use Rattle.std.specs.Prelude.{◌≡◌, ◌≤◌, [], ◌∷◌, ◌++◌, codes, length, map, take, true, IfOk, MatchOption, OnErr, OnOk};
 ghost use Rattle.std.specs.List.{flat_map};
 ghost use Rattle.std.specs.Io.KnownBytes.{Appends};
-ghost use Rattle.desk_words.specs.Causes.{heading_of, value_of_cause};
+ghost use Rattle.desk_words.specs.Causes.{heading_of, value_of_cause, word_of as is_word_of};
 ghost use Rattle.desk.specs.Finding.{asks as may_ask, count_of as how_many, count_text, findings_in as all_found, found_at, found_by, found_here, found_of, front_text, in_body_behind, place_text, findings_text, line_of, reference_text, refused_by, refused_text, refused_with, report_text, sums_text, shown as is_shown_as, told_behind, told_text, why_by, within_text, words_told};
 ghost use Rattle.desk.specs.Told.{told_by};
 
@@ -199,7 +199,7 @@ fn tell_cause<W: Sink>(cause: Cause, rest: &[u8], words: &[u8], writer: &mut W) 
 }
 
 /// These words, or the others where there are none.
-fn words_or<'a>(words: &'a [u8], others: &'a [u8]) -> &'a [u8]
+pub fn words_or<'a>(words: &'a [u8], others: &'a [u8]) -> &'a [u8]
     ensures { result.now ≡ words_told words.entry.now others.entry.now }
 {
     if words.is_empty() { others } else { words }
@@ -239,7 +239,7 @@ fn tell_named<W: Sink>(reference: &[u8], writer: &mut W) -> io::Result<()>
 }
 
 /// Writes so much of a text as is told, as it is shown.
-fn tell_front<W: Sink>(text: &[u8], writer: &mut W) -> io::Result<()>
+pub fn tell_front<W: Sink>(text: &[u8], writer: &mut W) -> io::Result<()>
     ensures written { OnOk result (Appends (W.contents writer.old) (W.contents writer.new) (front_text text.now)) }
     ensures failed { OnErr result (W.may_fail ≡ true) }
 {
@@ -249,7 +249,7 @@ fn tell_front<W: Sink>(text: &[u8], writer: &mut W) -> io::Result<()>
 }
 
 /// So much of a text as is told.
-fn front_of(text: &[u8]) -> &[u8]
+pub fn front_of(text: &[u8]) -> &[u8]
     ensures front { result.now ≡ take TOLD text.now }
     ensures within { length result.now ≤ TOLD }
 {
@@ -272,7 +272,7 @@ fn shown_front(front: &[u8]) -> [u8; TOLD]
 }
 
 /// How a byte is shown: as itself where it is printable, else as a question mark.
-fn shown(c: u8) -> u8
+pub fn shown(c: u8) -> u8
     ensures { result ≡ is_shown_as c }
 {
     if c >= b' ' && c <= b'~' { c } else { b'?' }
@@ -305,7 +305,7 @@ fn tell_count<W: Sink>(number: u8, findings: &[Explained<'_>], writer: &mut W) -
 }
 
 /// How many findings tell the cause of this number.
-fn count_of(number: u8, findings: &[Explained<'_>]) -> usize
+pub fn count_of(number: u8, findings: &[Explained<'_>]) -> usize
     ensures { result ≡ how_many number (map refused_by findings.now) }
 {
     findings
@@ -319,6 +319,13 @@ fn tell_heading<W: Sink>(number: u8, writer: &mut W) -> io::Result<()>
     ensures written { OnOk result (Appends (W.contents writer.old) (W.contents writer.new) (heading_of number)) }
     ensures failed { OnErr result (W.may_fail ≡ true) }
 {
-    let word = if number < 50 { "refused" } else { "fault" };
+    let word = word_of(number);
     writer.put_text(format_args!("{word} {number}"))
+}
+
+/// The word with which a number is told.
+pub fn word_of(number: u8) -> &'static str
+    ensures { result.now ≡ is_word_of number }
+{
+    if number < 50 { "refused" } else { "fault" }
 }

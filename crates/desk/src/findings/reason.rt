@@ -3,16 +3,21 @@ ghost use Rattle.std.specs.Prelude.{◌≡◌, ◌≢◌, [], List, ℕ, IfOk};
 ghost use Rattle.desk_book.specs.Asked.{mt_of};
 ghost use Rattle.desk.specs.Reason.{IsBadLine, IsNoCommand, IsNoMessage, IsUnread};
 
+use crate::findings::finding::tell_front;
 use desk_book::{InstructionType, Item, Question, first_item, first_line, said_by};
 use desk_findings::{
-    CommandFault, command_reference, why_no_command, why_no_request, write_command_fault,
-    write_line_fault,
+    CommandFault, command_reference, other_member, why_no_command, why_no_request,
+    write_command_fault, write_line_fault,
 };
-use desk_reasons::{reason_of_message, write_reason};
+use desk_reasons::{NestingReason, Reason as MessageReason, reason_of_message, write_reason};
+use desk_streams::Sink;
 use std::alloc::{AllocError, Global};
 
 /// The front of the line in which a message gives its reference.
 const REFERENCE: &[u8] = b":20C::SEME//";
+
+/// The front of the line that opens a sequence.
+const OPENS: &[u8] = b":16R:";
 
 /// What is told of a refused request besides its answer.
 #[derive(Drop)]
@@ -80,6 +85,9 @@ fn command_reason(alloc: Global, line: usize, text: &[u8]) -> Result<Reason, All
         });
     };
     write_command_fault(fault, &mut words).map_err(|_| AllocError)?;
+    if let CommandFault::OtherMembers = fault {
+        tell_other(alloc, text, &mut words)?;
+    }
     let line = line.saturating_add(line_within(fault));
     Ok(Reason {
         line,
@@ -88,11 +96,53 @@ fn command_reason(alloc: Global, line: usize, text: &[u8]) -> Result<Reason, All
     })
 }
 
+/// Tells which member a command should not have.
+fn tell_other(alloc: Global, text: &[u8], words: &mut Vec<u8>) -> Result<(), AllocError> {
+    if let Some(name) = other_member(alloc, text)? {
+        words.put(b": ").map_err(|_| AllocError)?;
+        tell_front(name.as_slice(), words).map_err(|_| AllocError)?;
+    }
+    Ok(())
+}
+
 /// The line of a command's text at which its fault stands, as far as it is known, counted from 1.
 fn line_within(fault: CommandFault) -> usize {
     match fault {
         CommandFault::NoJson(line, _) => line.max(1),
         _ => 1,
+    }
+}
+
+/// The line that opens the sequence of which a reason tells.
+fn opened_by(reason: MessageReason) -> Option<usize> {
+    match reason {
+        MessageReason::Nesting(NestingReason::OtherOpen(line) | NestingReason::StillOpen(line)) =>
+            Some(line),
+        _ => None,
+    }
+}
+
+/// Tells the name of the sequence that a line of a message opens.
+fn tell_sequence(text: &[u8], line: usize, words: &mut Vec<u8>) -> Result<(), AllocError> {
+    if let Some(name) = said_in(text, line).strip_prefix(OPENS) {
+        words.put(b", ").map_err(|_| AllocError)?;
+        tell_front(name, words).map_err(|_| AllocError)?;
+    }
+    Ok(())
+}
+
+/// What a line of a text says; nothing where it has fewer.
+fn said_in(text: &[u8], line: usize) -> &[u8] {
+    let mut rest = text;
+    for _ in 1..line {
+        match first_line(rest) {
+            Some((_, after)) => rest = after,
+            None => return &[],
+        }
+    }
+    match first_line(rest) {
+        Some((found, _)) => said_by(found),
+        None => &[],
     }
 }
 
@@ -116,6 +166,9 @@ fn message_reason(
         });
     };
     write_reason(told.reason, &mut words).map_err(|_| AllocError)?;
+    if let Some(opened) = opened_by(told.reason) {
+        tell_sequence(text, opened, &mut words)?;
+    }
     let line = line.saturating_add(told.line);
     Ok(Reason {
         line,

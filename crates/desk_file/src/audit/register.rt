@@ -51,11 +51,12 @@ pub enum Step {
 }
 
 /// Reads the row of a number, and takes its entry into a register.
-fn read_entry<S: Alter, R: Register>(
+fn read_entry<S: Alter, R: Register, P: Progress>(
     alloc: Global,
     conn: &mut Connection<S>,
     version: Version,
     register: &mut R,
+    progress: &mut P,
     number: u64,
 ) -> Result<Step, AuditFault>
     requires number { number < 2 ^ 63 }
@@ -81,6 +82,7 @@ fn read_entry<S: Alter, R: Register>(
         Found::Another => Ok(Step::Another),
         Found::Entry(kept) => {
             if take(alloc, register, &kept)? {
+                progress.taken(number, &kept.entry);
                 Ok(Step::Taken)
             } else {
                 Ok(Step::Another)
@@ -128,8 +130,8 @@ pub fn read_register<S: Alter, R: Register, P: Progress>(
     ensures blame { R.in_memory ≡ true → BlamesTaking (of_register result) (R.view register.old) (R.view register.new) }
 {
     for before in 0..MOST {
-        match read_entry(alloc, conn, version, register, before + 1)? {
-            Step::Taken => progress.taken(before + 1),
+        match read_entry(alloc, conn, version, register, progress, before + 1)? {
+            Step::Taken => {}
             Step::Another => return Ok(Reading::Stops(before + 1)),
             Step::Nothing => {
                 let end = read_end(conn, before)?;

@@ -69,6 +69,7 @@ impl<M: MemoryRegister, S: ToldRegister + Drop> MirroredRegister<M, S> {
         ensures tables { result.1 ≡ self.tables }
         ensures same { self.stage ≢ Failed → HasSame (M.view result.0) (S.view result.1) }
         ensures idle { self.stage ≡ Idle → (S.view result.1).stage ≡ Idle }
+        ensures idle_memory { self.stage ≡ Idle → (M.view result.0).stage ≡ Idle }
         ensures begun { self.stage ≡ Begun → HasSameMark (M.view result.0) (S.view result.1) }
     {
         (self.memory, self.tables)

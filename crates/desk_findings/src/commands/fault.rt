@@ -52,7 +52,8 @@ pub enum MemberFault {
 pub enum CommandFault {
     /// It is longer than `desk_text::LONGEST_TEXT`
     TooLong,
-    /// It is no JSON (RFC 8259) in UTF-8, from this line and column of it on, counted from 1, or nested too deep
+    /// It is no JSON (RFC 8259) in UTF-8, or nested too deep: its reader stopped in this line, counted from 1, behind so many bytes
+    /// of it
     NoJson(usize, usize),
     /// Its value is no object
     NoObject,

@@ -50,7 +50,7 @@ pub fn value_fault(value: &Value) -> Option<CommandFault>
 }
 
 /// The operation that a value names.
-fn operation_of(value: &Value) -> Option<Operation>
+pub fn operation_of(value: &Value) -> Option<Operation>
     ensures some { IfSome result (λ operation. text_at (codes "op") (view value.now) ≡ Some (word_of operation)) }
     ensures none { IfNone result ((operation : Operation) → ¬ (text_at (codes "op") (view value.now) ≡ Some (word_of operation))) }
 {

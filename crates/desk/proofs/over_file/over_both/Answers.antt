@@ -23,3 +23,10 @@ returns-in-Show-clause-done g c =
     let P = Appends (g.W.Write.contents c.args.writer.now) (g.W.Write.contents c.show_on_both-told.new.writer) in
     done_as (g.R.Read.remaining c.args.reader.now) U g.R.Source.may_fail c.show_on_both-told.result.0 P (KeptBy (view_of_both g.S.Store c.args.both)) (AreSaid {C = WasClosed} None (state g.S.Store c.show_on_both-told.result.1)) c.args.job.now (job.Show c.in-Show.shown c.in-Show.format) c.in-Show.is
     (refl, record { told = c.show_on_both-told.ensures.told; left = λ books keeps. record { closed = refl; says = λ none. c.show_on_both-told.ensures.left books keeps } })
+
+pub returns-in-Try-clause-done : goal.returns-in-Try-clause-done
+returns-in-Try-clause-done g c =
+    let U : Type 0 = c.try_on_both-told.new.reader ≡ c.args.reader.now in
+    let P = Appends (g.W.Write.contents c.args.writer.now) (g.W.Write.contents c.try_on_both-told.new.writer) in
+    done_as (g.R.Read.remaining c.args.reader.now) U g.R.Source.may_fail c.try_on_both-told.result.0 P (KeptBy (view_of_both g.S.Store c.args.both)) (AreSaid {C = WasClosed} None (state g.S.Store c.try_on_both-told.result.1)) c.args.job.now (job.Try c.in-Try.trial) c.in-Try.is
+    (record { told = c.try_on_both-told.ensures.told; left = λ books keeps. record { closed = refl; says = λ none. c.try_on_both-told.ensures.left books keeps } })

@@ -18,9 +18,19 @@ pub returns-in-Play-clause-told : goal.returns-in-Play-clause-told
 returns-in-Play-clause-told g c =
     told_of c.answer_play.result (g.R.Read.remaining c.args.reader.now) _ g.R.Source.may_fail (Appends (g.W.Write.contents c.args.writer.now) (g.W.Write.contents c.answer_play.new.writer)) c.args.call.now call.Play c.in-Play.is c.answer_play.ensures.told
 
+pub returns-in-TryOn-clause-told : goal.returns-in-TryOn-clause-told
+returns-in-TryOn-clause-told g c =
+    told_of c.over_real_file-in-TryOn.result (g.R.Read.remaining c.args.reader.now) _ g.R.Source.may_fail (Appends (g.W.Write.contents c.args.writer.now) (g.W.Write.contents c.over_real_file-in-TryOn.new.writer)) c.args.call.now (call.TryOn c.in-TryOn.db) c.in-TryOn.is
+    c.over_real_file-in-TryOn.ensures.told
+
 pub returns-in-Check-clause-told : goal.returns-in-Check-clause-told
 returns-in-Check-clause-told g c =
-    told_of c.answer_check.result (g.R.Read.remaining c.args.reader.now) _ g.R.Source.may_fail (Appends (g.W.Write.contents c.args.writer.now) (g.W.Write.contents c.answer_check.new.writer)) c.args.call.now call.Check c.in-Check.is c.answer_check.ensures.told
+    told_of c.answer_check.result (g.R.Read.remaining c.args.reader.now) _ g.R.Source.may_fail (Appends (g.W.Write.contents c.args.writer.now) (g.W.Write.contents c.answer_check.new.writer)) c.args.call.now (call.Check c.in-Check.format) c.in-Check.is c.answer_check.ensures.told
+
+pub returns-in-CheckOn-clause-told : goal.returns-in-CheckOn-clause-told
+returns-in-CheckOn-clause-told g c =
+    told_of c.over_real_file-in-CheckOn.result (g.R.Read.remaining c.args.reader.now) _ g.R.Source.may_fail (Appends (g.W.Write.contents c.args.writer.now) (g.W.Write.contents c.over_real_file-in-CheckOn.new.writer)) c.args.call.now (call.CheckOn c.in-CheckOn.db c.in-CheckOn.format) c.in-CheckOn.is
+    c.over_real_file-in-CheckOn.ensures.told
 
 pub returns-in-Explain-clause-told : goal.returns-in-Explain-clause-told
 returns-in-Explain-clause-told g c =

@@ -2,7 +2,7 @@ use Rattle.std.proofs.Common.{sym, subst}
 use Rattle.std.specs.Prelude.{IfSome}
 use Rattle.clap.specs.Words.{found_of, rows_of}
 use Rattle.desk_words.specs.Words.{IsSaid, IsSpelledOut, value_of_call}
-use Rattle.desk_words.proofs.WordsLemmas.{no_code, no_sums, no_type, no_word, none_said, said_code, said_sums, said_answer, said_type, same_check, same_code, same_sums, same_answer, same_type}
+use Rattle.desk_words.proofs.WordsLemmas.{no_code, no_sums, no_type, no_word, none_said, said_code, said_sums, said_answer, said_type, same_code, same_sums, same_answer, same_type}
 use Rattle.desk_words.proofs.calls.subcommand_call.Goals as goal
 
 pub returns-in_err-get_str-in-isin-clause-asked : goal.returns-in_err-get_str-in-isin-clause-asked
@@ -96,7 +96,7 @@ pub returns-in_ok-get_str-in-isin-clause-readable : goal.returns-in_ok-get_str-i
 returns-in_ok-get_str-in-isin-clause-readable c = tt
 
 pub returns-in-check-clause-readable : goal.returns-in-check-clause-readable
-returns-in-check-clause-readable c = tt
+returns-in-check-clause-readable c = c.check_call.ensures.readable
 
 pub returns-in_ok-get_str-in-sums-clause-readable : goal.returns-in_ok-get_str-in-sums-clause-readable
 returns-in_ok-get_str-in-sums-clause-readable c = tt
@@ -132,10 +132,10 @@ pub returns-in-migrate-clause-readable : goal.returns-in-migrate-clause-readable
 returns-in-migrate-clause-readable c = c.migrate_call.ensures.readable
 
 pub returns-in-check-clause-said : goal.returns-in-check-clause-said
-returns-in-check-clause-said c = c.in-check.is
+returns-in-check-clause-said c = subst (λ n. IsSaid (value_of_call c.check_call.result) n (rows_of (found_of c.args.inner.now))) (sym c.in-check.is) c.check_call.ensures.said
 
 pub returns-in-check-clause-asked : goal.returns-in-check-clause-asked
-returns-in-check-clause-asked c = λ asked named. same_check asked c.args.name.now (rows_of (found_of c.args.inner.now)) c.in-check.is named
+returns-in-check-clause-asked c = λ asked named. c.check_call.ensures.asked asked (subst (λ n. IsSpelledOut asked n (rows_of (found_of c.args.inner.now))) c.in-check.is named)
 
 pub returns-in_default-clause-asked : goal.returns-in_default-clause-asked
 returns-in_default-clause-asked c = λ asked named.

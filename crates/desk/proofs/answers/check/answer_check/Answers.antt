@@ -1,11 +1,11 @@
-use Rattle.std.proofs.Common.{Err, refl}
-use Rattle.desk.proofs.CheckLemmas.{script_told, told_why}
+use Rattle.std.proofs.Common.{refl}
+use Rattle.desk_rules.specs.declared.limits.TheConstants.{MOST_ENTRIES}
+use Rattle.desk_engine.specs.Applied.{no_books}
+use Rattle.desk_book.proofs.FormedLemmas.{empty_formed}
 use Rattle.desk.proofs.answers.check.answer_check.Goals as goal
 
-pub returns-in-Ok-clause-told : goal.returns-in-Ok-clause-told
-returns-in-Ok-clause-told g c =
-    script_told c.check_script.result (g.R.Read.remaining c.args.reader.now) _ _ _ _ (rw c.as_slice.ensures.value c.in-Ok.ensures.whole) c.check_script.ensures.told
+pub check_on-requires-clause-ready : goal.check_on-requires-clause-ready
+check_on-requires-clause-ready g c = record { stage = λ is. c.new-memory.ensures.stage; sure = λ is honest. tt; device = λ is honest. tt; books = λ is honest. (no_books, empty_formed _ _ c.new-memory.ensures.empty) }
 
-pub returns-in-Err-clause-told : goal.returns-in-Err-clause-told
-returns-in-Err-clause-told g c =
-    told_why (Err c.in-Err.fault) c.tell_failure.result c.in-Err.fault _ (g.R.Read.remaining c.args.reader.now) _ _ _ refl c.in-Err.ensures.memory c.in-Err.ensures.unread c.in-Err.ensures.too_long c.from.ensures c.tell_failure.ensures.told
+pub returns-clause-told : goal.returns-clause-told
+returns-clause-told g c = c.check_on.ensures.told no_books (empty_formed MOST_ENTRIES _ c.new-memory.ensures.empty)
