@@ -3,6 +3,7 @@ folder."""
 
 from plain.scripts import lines_with_ends
 
+from .damaged_requests import EACH, damaged_script
 from .folders import random_folder
 from .messages import random_text
 from .reports import journal_words, random_words, report_script
@@ -22,6 +23,10 @@ def commands_input(chance):
 def block_input(chance):
     mt = chance.pick((540, 541, 542, 543))
     return ["read", str(mt)], lines_with_ends(random_text(chance, mt))
+
+
+def check_input(chance):
+    return ["check"], [damaged_script(chance, EACH)[1]]
 
 
 def stream_input(chance):

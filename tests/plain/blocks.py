@@ -6,8 +6,8 @@ from collections import namedtuple
 MOST_BYTES = 65_536
 MOST_OPEN = 16
 
-# a field: its tag, the lines of its value, and the names of the sequences around it, outermost first
-Field = namedtuple("Field", "tag lines path")
+# a field: its tag, the lines of its value, the names of the sequences around it, outermost first, and the number of its line
+Field = namedtuple("Field", "tag lines path number")
 
 
 class Refused(Exception):
@@ -47,7 +47,7 @@ def read_body(numbered):
         if field and field[1] in (b"16R", b"16S"):
             names, in_value = read_opening_or_close(field[1][2:], field[2], number, names), False
         elif field:
-            fields.append(Field(field[1], [field[2]], tuple(names)))
+            fields.append(Field(field[1], [field[2]], tuple(names), number))
             in_value = True
         elif line == b"-}":
             return fields if not names else refuse(3, number)

@@ -94,7 +94,7 @@ class Reader:
         self.at = match.end()
         # what no floating-point number can be near is refused wherever it stands
         demand(math.isfinite(float(match[0])))
-        is_whole = match[0].isdigit() and len(match[0]) < 20
+        is_whole = match[0].isdigit() and int(match[0]) < 2**64
         return int(match[0]) if is_whole else float(match[0])
 
     def array(self, levels):

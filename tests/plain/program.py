@@ -2,6 +2,7 @@
 
 from .blocks import Refused, read_block
 from .books import EMPTY
+from .checking import check, explain
 from .codes import isin_fault
 from .connections import responses
 from .folders import take
@@ -43,6 +44,10 @@ def answer(words, given):
         return answer_isin(words[1])
     if words[:1] == ["read"]:
         return answer_read(int(words[1]), given)
+    if words[:1] == ["check"]:
+        return check(given)
+    if words[:1] == ["explain"]:
+        return explain()
     if words[:1] == ["serve"]:
         return responses(given)
     if words[:1] == ["drop"]:

@@ -27,24 +27,27 @@ def bare(line):
     return line[:-1] if line.endswith(b"\n") else line
 
 
-def items_of(script):
-    """What a script asks: pairs of a line and its body, which is None where there is none, and False where the
+def numbered_items(script):
+    """What a script asks: the number of a line, the line and its body, which is None where there is none, and False where the
     script ends before it does."""
-    rest = iter(lines_with_ends(script))
-    items = []
-    for whole in rest:
+    rest = enumerate(lines_with_ends(script), 1)
+    for number, whole in rest:
         line = bare(whole)
         if line == b"" or line.startswith(b"#"):
             continue
         body = read_body(rest) if line.split(b" ")[0] in (b"in", b"op") else None
-        items.append((line, body))
-    return items
+        yield number, line, body
+
+
+def items_of(script):
+    """The same without the numbers."""
+    return [(line, body) for _, line, body in numbered_items(script)]
 
 
 def read_body(rest):
     """The lines up to a full stop, as they stand; False where none comes."""
     body = []
-    for whole in rest:
+    for _, whole in rest:
         if bare(whole) == b".":
             return b"".join(body)[: MOST_BYTES + 1]
         body.append(whole)

@@ -1,23 +1,29 @@
-"""Trials of the random scripts, streams, folders, reports and journals: whether the plain program, playing some scripts, serving
-some days, taking some folders, and reporting and telling the journal some times, gives each kind of answer and of row, and is asked
-in each kind of words."""
+"""Trials of the random scripts, streams, folders, reports, journals and damaged requests: whether the plain program, playing some
+scripts, serving some days, taking some folders, reporting and telling the journal some times, and checking some scripts, gives each
+kind of answer, of row and of reason, and is asked in each kind of words."""
 
 import json
 import re
+from pathlib import Path
 
 from generate.chance import Chance
 from generate.comparing import DEFAULT_SEED
+from generate.comparing_reasons import findings_in
 from generate.comparing_streams import is_heard_out
+from generate.damaged_requests import EACH, damaged_script
 from generate.folders import random_folder
 from generate.inputs import journal_input, report_input
 from generate.scripts import random_script
 from generate.streams import random_streams, sent_by
 from plain.books import EMPTY
+from plain.checking import check
 from plain.connections import responses
 from plain.folders import take
 from plain.journal import journal
 from plain.reports import PARTS, report
 from plain.scripts import answers_to, books_after
+
+from .room import TOP
 
 SCRIPTS = 250
 DAYS = 60
@@ -25,6 +31,7 @@ DAYS = 60
 FOLDERS = 24
 REPORTS = 150
 JOURNALS = 150
+CHECKS = 32
 
 
 def op(name, answer):
@@ -370,6 +377,33 @@ def trials_of_journals():
         yield f"of {JOURNALS} random journals some have {kind}", count > 0, (count, "")
 
 
+# where the program has its reasons, and those that nobody is told: what no reader answers, and of a body in a script, which ends with
+# a line feed, that it has none
+REASONS = "crates/desk_reasons/src/words.rt", "crates/desk_findings/src/commands/fault.rt", "crates/desk_findings/src/lines/fault.rt"
+NEVER = {"is too long", "does not end with its check digit", "the BIC is none"}
+NEVER |= {f"the {it} does not fit" for it in ("number", "ISIN", "security", "BIC", "party", "day", "account", "reference", "value")}
+NEVER |= {"the text has no line feed"}
+
+
+def reasons_of_program():
+    """The words of its reasons, and what finds them in what is told."""
+    for path in REASONS:
+        for words in re.findall(r'"([^"]+)"', Path(TOP, path).read_text(encoding="utf-8")):
+            if words != "{name} {words}":
+                yield words, re.compile(re.sub(r"\\{[a-z]+\\}", ".+", re.escape(words)) + ("$" if words in NEVER else ""))
+
+
+def trials_of_reasons():
+    told = set()
+    for number in range(CHECKS):
+        _, script, _ = damaged_script(Chance(DEFAULT_SEED, number * EACH), EACH)
+        told |= {it.words for it in findings_in(script, check(script)[1]).values()}
+    for words, form in reasons_of_program():
+        seen = any(form.search(it) for it in told)
+        of_none = "none" if words in NEVER else "one"
+        yield f"of {CHECKS * EACH} damaged requests {of_none} is told: {words}", seen != (words in NEVER), (seen, "")
+
+
 def answered(script):
     """The requests of a script and what the plain program answers, each as one text."""
     return [(line + b"\n" + (body or b""), answer[: -len(b"\n.\n")]) for line, body, answer in answers_to(script)]
@@ -393,3 +427,4 @@ def trials(_):
     yield from trials_of_folders()
     yield from trials_of_reports()
     yield from trials_of_journals()
+    yield from trials_of_reasons()

@@ -162,7 +162,8 @@ def damaged_files(room, day):
 
 # opens no file that another has open, and none with that table, and counts the entries of the one of many; what is broken is
 # defined
-LOOKS = """db=$3
+LOOKS = """db=$3 word=$1
+[ "$4" != --dry-run ] || word=trial
 fault() {
   [ -z "$BESIDE" ] || touch "$db$BESIDE"
   echo "fault $1"
@@ -175,17 +176,17 @@ if [ "${db##*/}" = many ]; then
   if [ -t 2 ] || [ -n "$ALWAYS" ]; then
     seq "$UNTOLD" 5000 "$count" | sed "s|.*|desk: $db: & entries are read|" >&2
   fi
-  echo "desk: $db: it holds $count entries" >&2
+  echo "desk: $db: it holds $count entries, and no run" >&2
   exec printf '{"cash":[{"ccy":"EUR","held":%d,"net":%d}],"securities":[]}\\n' $((count - 1)) $((count - 1))
 fi
 if ! [ -e "$db" ]; then
-  [ "$1" = play ] && exec cp "$TABLES" "$db"
-  [ "$1" != "$MAKES" ] || touch "$db"
+  [ "$word" = play ] && exec cp "$TABLES" "$db"
+  [ "$word" != "$MAKES" ] || touch "$db"
   fault 61 "there is no such file, and none is made"
 fi
 [ -r "$db" ] || fault 61 "it cannot be read and written: Permission denied (os error 13)"
 if [ -e "$db-shm" ] || [ -e "$db.served" ]; then
-  fault 61 "another program has it open, or its log, or the device failed as it was opened"
+  fault 61 "another program has it open, or its log"
 fi
 ! grep -q "TABLE note" "$db"* || fault 50 "it has other tables than the desk's, or others beside"
 case $1 in
@@ -280,7 +281,7 @@ def trials_of_files(room):
         return run(room, "tests/parts/files", "odd", f"{room}/looks")
 
     yield passes("files odd: a program that makes no file", let_at(), " passed, 0 failed\n")
-    for word in "holdings", "sums", "report", "journal":
+    for word in "holdings", "sums", "report", "journal", "check", "trial":
         why = f"files odd: {word} over a path with no file: the file is another\n"
         yield fails(f"files odd: {word} makes the file that it looks for", let_at(makes=word), why)
     why = "files odd: play over a database that another left: beside it stand "
@@ -319,6 +320,75 @@ def trials_of_random(room, silent):
         yield fails(f"{word}: a program that does nothing", part(room, word, silent, "2"), "\n0 passed, 2 failed\n")
         yield fails(f"{word}: no program", part(room, word, f"{room}/none", "2"), "No such file")
         yield fails(f"{word}: a count of 0", part(room, word, plain, "0"), "nothing is tried\n")
+
+
+# what makes a plain `check` wrong: its file, what goes and what comes; and what is told where the plain program is as wrong
+WRONG_REASONS = {
+    "tells what each number means": (
+        "checking.py",
+        ("why = (words or MEANINGS[refusal]).encode()", "why = MEANINGS[refusal].encode()"),
+        "it has no reason of its own",
+    ),
+    "has a reason for what is read": (
+        "checking.py",
+        ("or (1, None)", 'or (1, "it does not fit")'),
+        "it has a reason of its own, and is read",
+    ),
+    "counts from the line that asks": (
+        "checking.py",
+        ("number + at, named", "number + at - 1, named"),
+        ", and the request ends in line ",
+    ),
+    "has words for what is something else": (
+        "reasons.py",
+        ("it stands nowhere", "it is not read"),
+        "words='it is not read'",
+    ),
+    "tells the line before": (
+        "reasons.py",
+        ("return at, why_no_line", "return at - 1, why_no_line"),
+        "it is told at what was not damaged",
+    ),
+    "blames the first field": (
+        "reasons.py",
+        ("return found[0].number, why_no_value", "return fields[0].number, why_no_value"),
+        "it is told where it is mended",
+    ),
+}
+
+
+# one that reads no dollars
+READS_LESS = "codes.py", ('b"KWD": 3, b"USD": 2}', 'b"KWD": 3}')
+
+
+def make_wrong(room, path, change):
+    """Makes a plain program with a change, and the part beside it that compares with that. Gives the program."""
+    copy("tests/parts/random", room)
+    for name in "lib", "generate":
+        os.symlink(f"{TESTS}/{name}", f"{room}/tests/{name}")
+    shutil.copytree(f"{TESTS}/plain", f"{room}/tests/plain")
+    with open(f"{TESTS}/plain/{path}", encoding="utf-8") as file:
+        text = file.read()
+    assert text.count(change[0]) == 1, f"{path} has not once: {change[0]}"
+    write(f"{room}/tests/plain/{path}", text.replace(*change))
+    return f"{room}/tests/plain/desk"
+
+
+def trials_of_reasons(room, silent):
+    """Programs that tell wrong reasons are compared with the plain program, and with one that is as wrong."""
+    plain = f"{TESTS}/plain/desk"
+    yield passes("random reasons: the plain program", part(room, "random reasons", plain, "30"), " passed, 0 failed\n")
+    yield fails("random reasons: a program that does nothing", part(room, "random reasons", silent, "2"), "None where [b'line ")
+    yield fails("random reasons: no program", part(room, "random reasons", f"{room}/none", "2"), "No such file")
+    yield fails("random reasons: a count of 0", part(room, "random reasons", plain, "0"), "nothing is tried\n")
+    for number, (name, (path, change, why)) in enumerate(WRONG_REASONS.items()):
+        own = f"{room}/reasons_{number}"
+        ran = part(room, "random reasons", make_wrong(own, path, change), "30")
+        yield fails(f"random reasons: one that {name}", ran, " is wanted")
+        ran = run(own, "tests/parts/random", "reasons", "tests/plain/desk", "300")
+        yield fails(f"random reasons: two that do so: {name}", ran, why)
+    ran = part(room, "random reasons", make_wrong(f"{room}/reads_less", *READS_LESS), "100")
+    yield fails("random reasons: one that reads no dollars", ran, "what is mended fully is refused")
 
 
 def trials_of_nothing(room, silent):
@@ -362,6 +432,7 @@ def trials_of_rows(room):
 def trials(room):
     silent = build_silent(room)
     yield from trials_of_random(room, silent)
+    yield from trials_of_reasons(room, silent)
     yield from trials_of_nothing(room, silent)
     yield from trials_of_refusals(room)
     yield from trials_of_rows(room)
