@@ -203,7 +203,7 @@ def json_stop(text):
         Walker(text).whole()
     except (Stop, UnicodeDecodeError) as stop:
         front = text[: stop.args[0] if isinstance(stop, Stop) else stop.start + 1]
-        return front.count(b"\n") + 1, len(front) - (front.rfind(b"\n") + 1)
+        return front.count(b"\n") + 1, max(len(front) - (front.rfind(b"\n") + 1), 1)
     return None
 
 
@@ -212,13 +212,14 @@ def json_stop(text):
 MOST = {"ref": 16, "account": 35, "quantity": MOST_QUANTITY, "amount": MOST_PAID}
 
 
+def why_not_printable(text):
+    return "" if re.fullmatch(rb"[\x20-\x7e]*", text) else "has a character other than printable ASCII"
+
+
 def why_no_shape(name, text):
     if text == b"":
         return "is empty"
-    # (these are bytes: a text of fewer characters that are not ASCII is told as too long)
-    if len(text) > MOST[name]:
-        return f"has more than {MOST[name]} characters"
-    return "" if re.fullmatch(rb"[\x20-\x7e]+", text) else "has a character other than printable ASCII"
+    return f"has more than {MOST[name]} characters" if len(text) > MOST[name] else ""
 
 
 def why_no_isin(text):
@@ -246,6 +247,8 @@ def why_no_currency(text):
 
 def why_no_text(name, text):
     """Why a member's text does not fit; '' where it does."""
+    if name in ("ref", "account", "bic", "isin") and why_not_printable(text):
+        return why_not_printable(text)
     if name in ("ref", "account"):
         slash = name == "ref" and not read_reference(text) and "begins or ends with a slash, or has two together"
         return why_no_shape(name, text) or slash or ""

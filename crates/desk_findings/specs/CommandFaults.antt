@@ -15,6 +15,7 @@ use Rattle.desk_codes.specs.Day.{IsDay}
 use Rattle.desk_codes.specs.Isin.{ReadsIsin}
 use Rattle.desk_codes.specs.Reference.{IsReference}
 use Rattle.desk_codes.specs.declared.currency.Ccy.{Ccy}
+use Rattle.desk_codes.specs.declared.fault.CodeFault.{CodeFault}
 use Rattle.desk_msg.specs.Profile.{code_of_kind}
 use Rattle.desk_msg.specs.declared.instruction.Kind.{Kind as KindValue}
 use Rattle.desk_rules.specs.declared.limits.TheConstants.{MOST_PAID, MOST_QUANTITY}
@@ -25,7 +26,7 @@ use Rattle.desk_findings.specs.declared.commands.fault.CommandFault.TheVariants 
 use Rattle.desk_findings.specs.declared.commands.fault.MemberFault.{MemberFault}
 use Rattle.desk_findings.specs.declared.commands.fault.MemberFault.TheVariants.{Missing, NoText, Wrong, NoNumber, Range}
 use Rattle.desk_findings.specs.declared.commands.fault.TextFault.{TextFault}
-use Rattle.desk_findings.specs.declared.commands.fault.TextFault.TheVariants.{Empty, TooLong, Unprintable, Slash, Code, NoKind, NotEightDigits, NoDate, LowerCase, NoCurrency}
+use Rattle.desk_findings.specs.declared.commands.fault.TextFault.TheVariants.{Empty, Unprintable, TooLong, Slash, Code, NoKind, NotEightDigits, NoDate, LowerCase, NoCurrency}
 use Rattle.desk_findings.specs.declared.commands.member.Member.{Member}
 use Rattle.desk_findings.specs.declared.commands.member.Member.TheVariants.{Text, Number}
 use Rattle.desk_findings.specs.declared.commands.member.NumberMember.{NumberMember}
@@ -106,17 +107,23 @@ IsWithin most text = (text ≢ []) × (length text ≤ most)
 -- What is wrong with a text that must be some printable characters, and so many at most.
 abbrev pub IsShapeFault : ℕ → List ℕ → TextFault → Type 0
 IsShapeFault most text Empty = text ≡ []
-IsShapeFault most text (TooLong longest) = (longest ≡ most) × (most < length text)
-IsShapeFault most text Unprintable = IsWithin most text × ¬ All IsPrintable text
+IsShapeFault most text Unprintable = ¬ All IsPrintable text
+IsShapeFault most text (TooLong longest) = All IsPrintable text × (longest ≡ most) × (most < length text)
 IsShapeFault most text fault = ⊥
+
+-- What is wrong with a text that must be a code, of which that is read: one that is not printable is told as that.
+abbrev pub IsCodeFault : (List ℕ → CodeFault → Type 0) → List ℕ → TextFault → Type 0
+IsCodeFault Reads text Unprintable = ¬ All IsPrintable text
+IsCodeFault Reads text (Code fault) = All IsPrintable text × Reads text fault
+IsCodeFault Reads text fault = ⊥
 
 -- What is wrong with the text of a member.
 abbrev pub IsWrong : TextMember → List ℕ → TextFault → Type 0
 IsWrong Reference text Slash = IsWithin 16 text × All IsPrintable text × ¬ IsReference text
 IsWrong Reference text fault = IsShapeFault 16 text fault
-IsWrong Party text (Code fault) = ReadsBic text (Err fault)
+IsWrong Party text fault = IsCodeFault (λ code wrong. ReadsBic code (Err wrong)) text fault
 IsWrong Account text fault = IsShapeFault 35 text fault
-IsWrong Security text (Code fault) = ReadsIsin text (Err fault)
+IsWrong Security text fault = IsCodeFault (λ code wrong. ReadsIsin code (Err wrong)) text fault
 IsWrong Kind text NoKind = (kind : KindValue) → ¬ (code_of_kind kind ≡ text)
 IsWrong Day text NotEightDigits = ¬ ((length text ≡ 8) × All IsDigit text)
 IsWrong Day text NoDate = (length text ≡ 8) × All IsDigit text × ¬ IsDay text

@@ -12,10 +12,10 @@ use std::io;
 pub enum TextFault {
     /// It is empty
     Empty,
-    /// It has more characters than this, the most that it may have
-    TooLong(usize),
     /// One of its bytes is no printable character of ASCII
     Unprintable,
+    /// It has more characters than this, the most that it may have
+    TooLong(usize),
     /// A reference begins or ends with a slash, or has two together
     Slash,
     /// It is no BIC, or no ISIN, for this reason
@@ -74,9 +74,13 @@ pub fn write_command_fault<W: Sink>(fault: CommandFault, writer: &mut W) -> io::
 {
     match fault {
         CommandFault::Wrong(member, fault) => write_member_fault(member, fault, writer),
-        CommandFault::NoJson(line, column) => writer.put_text(format_args!(
-            "the body is no JSON, from its line {line}, column {column} on"
-        )),
+        CommandFault::NoJson(line, column) => {
+            // a line that ends the text, and is empty, has a first column too
+            let column = column.max(1);
+            writer.put_text(format_args!(
+                "the body is no JSON, from its line {line}, column {column} on"
+            ))
+        }
         _ => writer.put(words_of(fault)),
     }
 }
@@ -125,8 +129,8 @@ fn write_member_fault<W: Sink>(member: Member, fault: MemberFault, writer: &mut 
 fn words_of_text(fault: TextFault) -> &'static str {
     match fault {
         TextFault::Empty => "is empty",
-        TextFault::TooLong(_) => "is too long",
         TextFault::Unprintable => "has a character other than printable ASCII",
+        TextFault::TooLong(_) => "is too long",
         TextFault::Slash => "begins or ends with a slash, or has two together",
         TextFault::Code(fault) => words_of_code(fault),
         TextFault::NoKind => "is neither UNIT nor FAMT",

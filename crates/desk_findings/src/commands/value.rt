@@ -156,11 +156,11 @@ fn shape_fault(text: &[u8], most: usize) -> Option<TextFault>
     if text.is_empty() {
         return Some(TextFault::Empty);
     }
-    if text.len() > most {
-        return Some(TextFault::TooLong(most));
-    }
     if !are_printable(text) {
         return Some(TextFault::Unprintable);
+    }
+    if text.len() > most {
+        return Some(TextFault::TooLong(most));
     }
     None
 }
@@ -175,6 +175,9 @@ fn party_fault(text: &[u8]) -> Option<TextFault>
     ensures fault { IfSome result (IsWrong TextMember.Party text.now) }
     ensures right { IfNone result (IsText TextMember.Party text.now) }
 {
+    if !are_printable(text) {
+        return Some(TextFault::Unprintable);
+    }
     match Bic::parse(text) {
         Ok(_) => None,
         Err(fault) => Some(TextFault::Code(fault)),
@@ -185,6 +188,9 @@ fn isin_fault(text: &[u8]) -> Option<TextFault>
     ensures fault { IfSome result (IsWrong TextMember.Security text.now) }
     ensures right { IfNone result (IsText TextMember.Security text.now) }
 {
+    if !are_printable(text) {
+        return Some(TextFault::Unprintable);
+    }
     match Isin::parse(text) {
         Ok(_) => None,
         Err(fault) => Some(TextFault::Code(fault)),
