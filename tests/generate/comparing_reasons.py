@@ -73,7 +73,7 @@ def fault_of_stop(finding, wanted, body, begin):
     if not stop:
         return f"{finding!r} where it is no JSON"
     read = read_at(body, int(stop[1]), int(stop[2]))
-    is_right = wanted.least <= read <= wanted.most and finding.at == begin + int(stop[1])
+    is_right = any(wanted.least <= it <= wanted.most for it in read) and finding.at == begin + int(stop[1])
     return "" if is_right else f"{finding!r}, byte {read}, where one of {wanted!r} is wanted"
 
 
@@ -246,8 +246,9 @@ def lines_by_request(printed):
 
 
 def read_at(body, line, column):
-    """How many bytes are read up to this column of this line."""
-    return sum(map(len, lines_with_ends(body)[: line - 1])) + column
+    """How many bytes may be read up to this column of this line: the first one is told too where nothing of it is."""
+    begin = sum(map(len, lines_with_ends(body)[: line - 1]))
+    return [begin, begin + 1] if column == 1 else [begin + column]
 
 
 def is_near(told, due, body):
@@ -255,12 +256,17 @@ def is_near(told, due, body):
     one, other = (STOPPED.fullmatch(it[0]) if it and len(it) == 1 else None for it in (told, due))
     if not one or not other or one[1] != other[1] or int(one[5]) != int(one[2]) + int(one[3]):
         return False
-    stop = read_at(body, int(other[3]), int(other[4]))
+    read = read_at(body, int(one[3]), int(one[4]))
+    return any(is_near_to(stop, it, body) for stop in read_at(body, int(other[3]), int(other[4])) for it in read)
+
+
+def is_near_to(stop, read, body):
+    """Whether so many bytes are read by a reader that stops at the token at which another stops, or a little behind it."""
     tokens = [it.span() for it in TOKEN.finditer(body)]
     first = next((at for at, (_, end) in enumerate(tokens) if end >= stop - 1), len(tokens) - 1)
     least = tokens[first][0] + 1 if tokens else 0
     most = tokens[first + 3][0] + 1 if first + 3 < len(tokens) else len(body)
-    return min(least, stop) <= read_at(body, int(one[3]), int(one[4])) <= most
+    return min(least, stop) <= read <= most
 
 
 def differences(script, printed, wanted):

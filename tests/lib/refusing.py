@@ -16,7 +16,10 @@ MOST = 100_000
 # how requests are answered that met a failure of their file: as if not asked, and by a desk that is closed
 UNDONE, CLOSED = b"500\nfault 61\n.\n", b"500\nfault 62\n.\n"
 
-# what standard error tells of a file, behind its name: that the desk is closed, and that it is not closed itself
+# what standard error tells of a file, behind its name: a call on it that failed, as one that found no room or as any other; that
+# the desk is closed, and that it is not closed itself
+TELLS_FULL = "a call on it failed: no room is left on its device"
+TELLS_BROKEN = "a call on it failed: its device failed as it was read, or written"
 TELLS_CLOSED = "fault 62: the file failed, and the desk is closed: it answers nothing more; run it anew over the file"
 TELLS_UNCLOSED = "fault 61: it could not be closed: its log stays beside it, and belongs to it"
 

@@ -27,7 +27,7 @@ from lib.files import dumped
 from lib.over_http import requests_of
 from lib.play import answers_in, read, requests_in
 from lib.preload import build, failed
-from lib.refusing import CLOSED, MOST, TELLS_CLOSED, TELLS_UNCLOSED, UNDONE
+from lib.refusing import CLOSED, MOST, TELLS_BROKEN, TELLS_CLOSED, TELLS_UNCLOSED, UNDONE
 from lib.server import HOST, PATIENCE, Server, free_port, over, received
 
 SUMS = b"GET /sums HTTP/1.1\r\n\r\n"
@@ -190,10 +190,11 @@ class FailingFile:
         return 1 + bisect.bisect_left(range(1, MOST), (place, CLOSED), key=met)
 
     def is_closed_at(self, place, number):
-        """Whether the desk is closed at the request of this place where the call of this number fails, and tells so once."""
+        """Whether the desk is closed at the request of this place where the call of this number fails, and tells so once, behind
+        what that call met."""
         answers, (status, printed, told) = self.serve(number)
         lines = [it for it in told.decode().splitlines() if not it.startswith("failed ")]
-        is_told = lines == [f"desk: {self.db}: {it}" for it in (TELLS_CLOSED, TELLS_UNCLOSED)]
+        is_told = lines == [f"desk: {self.db}: {it}" for it in (TELLS_BROKEN, TELLS_CLOSED, TELLS_UNCLOSED)]
         is_ended = (status, printed) == (FAULT, UNCLOSED) and sorted(os.listdir(self.folder)) == [DB, LOG]
         return answers == self.wanted[:place] + [CLOSED] * (len(self.wanted) - place) and is_told and is_ended
 

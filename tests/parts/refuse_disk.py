@@ -14,8 +14,8 @@ sound.
 
 The desk's own program closes the file behind the last answer, so that it stands alone. A call that fails then does no harm, or
 `fault 61` stands behind the answers, with status 3: the log is left, the file holds all, and is opened again. So it is behind
-62 too. Standard error has a line of a file that is not opened, of 62, and of one that is not closed, each once, and nothing
-else. With a step only each so many-th call fails, and of all requests one must be answered each fault."""
+62 too. Standard error has a line of a file that is not opened, of 62, and of one that is not closed, each once, before these
+what the call met that failed, and nothing else. With a step only each so many-th call fails, and of all requests one must be answered each fault."""
 
 import contextlib
 import functools
@@ -26,7 +26,7 @@ import sys
 from lib.files import copied, new_path
 from lib.play import answers_in, playing, ran, read, requests_in
 from lib.preload import failed
-from lib.refusing import CLOSED, TELLS_CLOSED, TELLS_UNCLOSED, UNDONE, in_turn, new_library, unmet
+from lib.refusing import CLOSED, TELLS_BROKEN, TELLS_CLOSED, TELLS_FULL, TELLS_UNCLOSED, UNDONE, in_turn, new_library, unmet
 
 # in which runs calls fail: how, as tests/lib/failing.c says, and the second one so many calls behind the first (0: no second)
 RUNS = [("unmade", 0), ("half", 0), ("made", 0), ("unmade", 1), ("unmade", 2)]
@@ -38,6 +38,8 @@ UNCLOSED = b"fault 61\n"
 # what standard error tells too of a file by the desk's own program
 # standard error tells why a file is not opened as far as the system does
 TELLS_NOT_OPENED = "fault 61: "
+# of the calls that fail those that may find no room, where they are told so
+TAKES_ROOM = "pwrite", "write", "ftruncate", "fsync", "fdatasync"
 
 
 def held_in(path):
@@ -98,9 +100,10 @@ class FailedScript:
         """What is told where a request is answered a fault: where calls are passed over, that of any other one is the same."""
         return (0 if self.step != 1 and 0 <= place < len(self.requests) else place), fault
 
-    def faults(self, ended, path, failures, told):
+    def faults(self, ended, path, failures, told, met):
         """The places of the requests that met a failure, each with its fault, and that behind the last one where the file was
-        not closed; none where the run did not end as it must. `told` is what was told of the file."""
+        not closed; none where the run did not end as it must. `told` is what was told of the file, and `met` what is told of a
+        call that failed."""
         status, printed = ended
         is_unclosed = self.player.closes and status == 3 and printed.endswith(b"\n.\n" + UNCLOSED)
         if is_unclosed:
@@ -110,7 +113,10 @@ class FailedScript:
             is_told = len(told) == 1 and told[0].startswith(f"desk: {path}: {TELLS_NOT_OPENED}")
         else:
             due = [TELLS_CLOSED] * is_closed + [TELLS_UNCLOSED] * is_unclosed
-            is_told = told == [f"desk: {path}: {it}" for it in due if self.player.closes]
+            rest = [it for it in told if it != f"desk: {path}: {met}"]
+            is_met = UNDONE in printed or bool(due)
+            is_told = rest == [f"desk: {path}: {it}" for it in due if self.player.closes]
+            is_told = is_told and (len(rest) < len(told) <= len(rest) + failures) == (is_met and self.player.closes)
         if not is_told:
             return None
         if self.player.closes and ended != NOT_OPENED and os.path.exists(path + "-wal") != is_unclosed:
@@ -157,8 +163,11 @@ class FailedScript:
         with new_path() as path:
             ended, told = self.player.play(path, self.script, way, number, behind)
             lines = [line for line in told.splitlines() if not line.startswith("failed ")]
-            failures = len(told.splitlines()) - len(lines)
-            faults = self.faults(ended, path, failures, lines) if failures <= 1 + bool(behind) else None
+            failed_calls = [line.removeprefix("failed ") for line in told.splitlines() if line not in lines]
+            failures = len(failed_calls)
+            is_full = way == "half" and failed_calls[:1] != [] and failed_calls[0] in TAKES_ROOM
+            met = TELLS_FULL if is_full else TELLS_BROKEN
+            faults = self.faults(ended, path, failures, lines, met) if failures <= 1 + bool(behind) else None
             return (faults, ended), told
 
     def fail_in_turn(self, name):

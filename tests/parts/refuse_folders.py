@@ -30,7 +30,7 @@ from pathlib import Path
 from lib.files import left_otherwise
 from lib.folders import PlainDesk, held_in, new_room, others, told_of
 from lib.preload import build, failed, refused
-from lib.refusing import CLOSED, FAULT, TELLS_CLOSED, TELLS_UNCLOSED, UNDONE, in_turn, unmet
+from lib.refusing import CLOSED, FAULT, TELLS_BROKEN, TELLS_CLOSED, TELLS_FULL, TELLS_UNCLOSED, UNDONE, in_turn, unmet
 from plain.dropping import UNFINISHED, files_in
 
 IO, MEMORY, STORAGE = b"fault io\n", b"fault 60\n", b"fault 61\n"
@@ -80,7 +80,10 @@ class Ending:
         lines = told.decode().splitlines()
         # what the library tells that fails, and what the program tells of its file
         self.met = [it for it in lines if it.startswith("failed ") or it == "refused"]
-        self.told = [it.removeprefix(f"desk: {room.db}: ") for it in lines if it not in self.met]
+        told = [it.removeprefix(f"desk: {room.db}: ") for it in lines if it not in self.met]
+        self.told = [it for it in told if it not in (TELLS_FULL, TELLS_BROKEN)]
+        # whether what a call on the file met is told of
+        self.is_met = self.told != told
         held = held_in(room.target)
         names = sorted(held.keys() - {UNFINISHED}, key=lambda name: name.removesuffix(b".out"))
         # what stands there and did not before
@@ -117,6 +120,7 @@ class Ending:
     def faulted(self):
         """A run that told a fault, with no file asked, or with all of them."""
         self.demand_first()
+        demand(not self.is_met, "other lines are told")
         fault = self.printed.decode().strip()
         is_unopened = self.told != [] and self.told[0].startswith(f"{fault}: ")
         told = self.told[is_unopened:]
@@ -138,6 +142,8 @@ class Ending:
         demand(len(undone) + bool(closed) <= len(self.met), "more faults are told than there were")
         demand(not closed or max(undone, default=b"") < closed[0], "a closed desk tells another fault")
         demand(self.told == [TELLS_CLOSED] * bool(closed) + [self.tally()] + behind, "other lines are told")
+        is_failed = UNDONE in self.answers.values() or closed != [] or behind != []
+        demand(self.is_met == is_failed, "what failed is not told, or nothing failed")
         desk, wanted = self.folder.after({*undone, *closed})
         got = {it: answer for it, answer in self.answers.items() if it not in undone + closed}
         demand(got == wanted, f"answers are others: {others(got, wanted)}")

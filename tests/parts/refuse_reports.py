@@ -5,14 +5,15 @@ A script is played on a new file first. Over that file `report` and `journal` ru
 - while each growth of memory behind the opening of the file is refused in turn, from the last one back, and each 97th up to
   there. What is printed is whole, or a front with `fault 60` in a line of its own behind, or that alone, with status 3.
   Standard error has a line of a file that is not opened, and else none. Each of these must come in some run;
-- while each write fails in turn, with nothing of it done, with half, and with all. Nothing is written behind it, and the status
-  is 3.
+- while each write fails in turn, with nothing of it done, with half, and with all. Nothing is written behind it, the status is 3,
+  and standard error tells why.
 
 The file stays as it was, to the byte. Then they run after the script without a file, into one that has room for so many bytes
-alone, from none to all of them. These are written, and the status is 3, or 0 where there is room for all. With a step it is each
-so many-th growth behind the opening, write and room."""
+alone, from none to all of them. These are written, the status is 3, and standard error tells why, or it is 0 where there is room
+for all. With a step it is each so many-th growth behind the opening, write and room."""
 
 import bisect
+import errno
 import functools
 import os
 import resource
@@ -31,8 +32,13 @@ TOLD = ["report"], ["report", "--json"], ["journal"], ["journal", "--json"]
 KINDS = {"whole", "unopened", "alone", "broken"}
 # of the growths up to the opening each so many-th is refused; `tests/parts/refuse opening` has those of the opening
 BEFORE = 97
-# how writes fail, as tests/lib/failing.c says
-WAYS = "unmade", "half", "made"
+# how writes fail, as tests/lib/failing.c says, and what the system tells then
+WAYS = {"unmade": errno.EIO, "half": errno.ENOSPC, "made": errno.EIO}
+
+
+def unwritten(error):
+    """What standard error tells where a write to standard output has failed so."""
+    return f"desk: standard output: {os.strerror(error)} (os error {error})\n".encode()
 
 
 def limit(room):
@@ -114,11 +120,11 @@ def refuse_growths(desk, words, whole, step):
 
 def fail_writes(desk, words, whole, step):
     """The same of writes."""
-    for way in WAYS:
+    for way, error in WAYS.items():
         for number, ended, has_failed in in_turn(functools.partial(desk.failed, words, way), step):
             status, printed, *kept = ended
             is_front = whole.startswith(printed) and (way == "made" or printed != whole)
-            is_well = (status, kept) == (3, [b"", True]) and is_front if has_failed else ended == (0, whole, b"", True)
+            is_well = (status, kept) == (3, [unwritten(error), True]) and is_front if has_failed else ended == (0, whole, b"", True)
             yield f"write {number} {way}", "" if is_well else ended
         if number == 1:
             yield f"writes {way}", "none failed"
@@ -128,7 +134,8 @@ def leave_room(desk, words, whole, step):
     """The same of output that takes so many bytes alone."""
     for room in [*range(0, len(whole), step), len(whole)]:
         ended = desk.limited(words, room)
-        yield f"room for {room} bytes", "" if ended == (0 if room == len(whole) else 3, whole[:room], b"") else ended
+        status, told = (0, b"") if room == len(whole) else (3, unwritten(errno.EFBIG))
+        yield f"room for {room} bytes", "" if ended == (status, whole[:room], told) else ended
 
 
 def refuse_reports(program, script, step="1"):

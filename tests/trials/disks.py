@@ -6,16 +6,20 @@ from .room import TESTS, fails, part, passes, write, write_script
 
 # keeps each request as a line, behind a call by which it is as if not asked and before one by which nobody can say
 PLAYS = """
-import os, sys
+import errno, os, sys
 sys.dont_write_bytecode = True
 sys.path.insert(0, TESTS)
-from lib.refusing import CLOSED, TELLS_CLOSED, TELLS_UNCLOSED, UNDONE
+from lib.refusing import CLOSED, TELLS_BROKEN, TELLS_CLOSED, TELLS_FULL, TELLS_UNCLOSED, UNDONE
 from lib.play import requests_in
 db = sys.argv[3]
 log, answers, is_closed = db + "-wal", [], False
 
 def tell(text):
     print(f"desk: {db}: {text}", file=sys.stderr)
+
+def tell_met(error):
+    if TELLS:
+        tell(TELLS_FULL if error.errno == errno.ENOSPC else TELLS_BROKEN)
 
 try:
     file = os.open(db, os.O_RDWR | os.O_CREAT, 0o600)
@@ -34,12 +38,14 @@ def answer(line):
         at = sum(len(it) + 1 for it in kept)
         try:
             os.fsync(file)
-        except OSError:
+        except OSError as error:
+            tell_met(error)
             return UNDONE
         try:
             os.pwrite(file, line + b"\\n", at)
             os.fsync(file)
-        except OSError:
+        except OSError as error:
+            tell_met(error)
             if not CLOSES:
                 os.ftruncate(file, at)
                 return UNDONE
@@ -53,8 +59,10 @@ answers = [answer(b" ".join(it.split())) for it in requests_in(sys.stdin.buffer.
 is_left = CLOSED in answers
 try:
     os.fsync(file)
-except OSError:
+except OSError as error:
     is_left = is_left or LOOKS
+    if is_left:
+        tell_met(error)
 if is_left:
     answers.append(b"fault 61\\n")
     tell(TELLS_UNCLOSED)
@@ -63,7 +71,7 @@ else:
 sys.stdout.buffer.write(b"".join(answers))
 sys.exit(3 if is_left else 0)
 """
-RIGHT = {"CLOSES": True, "STAYS_CLOSED": True, "LOOKS": True}
+RIGHT = {"CLOSES": True, "STAYS_CLOSED": True, "LOOKS": True, "TELLS": True}
 
 SCRIPT = "".join(f"op\n{number}\n.\n" for number in range(3))
 
@@ -87,4 +95,5 @@ def trials(room):
     yield fails("a program that never tells 62", refused(room, FIT, CLOSES=False), why.format(0, b"500\nfault 62\n.\n"))
     yield fails("one that never tells of a close", refused(room, FIT, LOOKS=False), why.format(3, b"fault 61\n"))
     yield fails("one that goes on behind 62", refused(room, FIT, STAYS_CLOSED=False), "fault 62\\n.\\n200\\naccepted ")
+    yield fails("one that does not tell what failed", refused(room, FIT, TELLS=False), "500\\nfault 61\\n.\\n")
     yield fails("a step that passes over a fault", refused(room, UNFIT), why.format(0, b"500\nfault 61\n.\n"))

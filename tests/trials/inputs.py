@@ -94,7 +94,8 @@ int main(int count, char **words)
 """
 
 # takes memory for its words, to open a file and for each of three rows; what is broken is defined
-TELLS = """#include <fcntl.h>
+TELLS = """#include <errno.h>
+#include <fcntl.h>
 #include <stdio.h>
 #include <stdlib.h>
 #include <string.h>
@@ -106,8 +107,11 @@ static int say(const char *text)
         ssize_t wrote = write(1, text, length);
         if (wrote < 0 && RETRIES)
             wrote = write(1, text, length);
-        if (wrote < 0)
+        if (wrote < 0) {
+            if (SAYS_WHY)
+                fprintf(stderr, "desk: standard output: %s (os error %d)\\n", strerror(errno), errno);
             return 1;
+        }
         text += wrote;
         length -= wrote;
     }
@@ -148,7 +152,7 @@ int main(int count, char **words)
     return say("\\n") ? UNWRITTEN : 0;
 }
 """
-TOLD_WELL = {"RETRIES": 0, "UNWRITTEN": 3, "LEAVES_OUT": 0, "TELLS_MORE": 0, "CHANGES": 0, "ENDS": 1}
+TOLD_WELL = {"RETRIES": 0, "SAYS_WHY": 1, "UNWRITTEN": 3, "LEAVES_OUT": 0, "TELLS_MORE": 0, "CHANGES": 0, "ENDS": 1}
 
 # no odd file but those that `tests/parts/files odd` makes itself, and a day of nothing
 NO_ODD_FILES = """from .all_odd import *
@@ -257,6 +261,7 @@ def trials_of_reports(room):
         "ENDS": (0, "report --json, growth 4 of 5 refused: (3,"),
         "UNWRITTEN": (1, "journal, write 2 half: (1,"),
         "RETRIES": (1, "report --json, write 4 unmade: (0,"),
+        "SAYS_WHY": (0, "report, write 1 unmade: (3,"),
     }.items():
         yield fails(f"refuse reports: {name} is {value}", refused(**{name: value}), why)
 

@@ -23,7 +23,7 @@ use crate::status::{Failure, Status};
 use crate::store::{
     Behind, FileRegister, close_behind, connection_of, open, open_there, tell_unopened,
 };
-use crate::teller::{Teller, Watch};
+use crate::teller::{Failing, Teller, Watch};
 use desk_book::{Desk, WasClosed};
 use desk_codes::Bic;
 use desk_file::MirroredRegister;
@@ -168,12 +168,12 @@ fn ask_on_both<S: Alter + Drop, R: Source, W: Sink>(
     ensures failed { OnErr result.0 (W.may_fail ≡ true) }
 {
     let (told, was_closed, both) = ask_on(rt, both, ask, teller, reader, writer);
-    teller.look(was_closed.is_some());
+    teller.look(was_closed.is_some(), both.failures());
     (told, was_closed, connection_of(both))
 }
 
 /// Asks the desk over a register, which is given back, with that the desk was closed, where it was.
-fn ask_on<D: Register + Drop, R: Source, W: Sink>(
+fn ask_on<D: Register + Failing + Drop, R: Source, W: Sink>(
     rt: &HostRuntime,
     register: D,
     ask: &Ask<'_>,
@@ -194,7 +194,7 @@ fn ask_on<D: Register + Drop, R: Source, W: Sink>(
 }
 
 /// Asks a desk that is open.
-fn ask_desk<D: Register + Drop, R: Source, W: Sink>(
+fn ask_desk<D: Register + Failing + Drop, R: Source, W: Sink>(
     rt: &HostRuntime,
     desk: &mut Desk<D>,
     ask: &Ask<'_>,

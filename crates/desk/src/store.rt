@@ -140,7 +140,10 @@ pub fn close<D: Disk + Drop>(
             let _ = remove_log(rt, path);
             Ok(files)
         }
-        Err((_, store)) => Err(store),
+        Err((error, store)) => {
+            Teller::new(rt, path).met(&error);
+            Err(store)
+        }
     }
 }
 

@@ -4,9 +4,11 @@ use crate::obstacle::{Obstacle, obstacle_to};
 use crate::status::Failure;
 use desk_book::Fault;
 use desk_codes::Day;
-use desk_file::{Difference, OpenFault, Progress, Table};
+use desk_file::{Difference, MirroredRegister, OpenFault, Progress, Table};
 use desk_rules::{Entry, Reply};
-use sqlite::{Error, ErrorCode};
+use memory_register::ListRegister;
+use sql_register::{Failures, SqlRegister};
+use sqlite::{Alter, Error, ErrorCode};
 use std::io::{self, IsTerminal};
 
 /// So many entries are read before it is told how far the opening of a file is.
@@ -50,13 +52,31 @@ impl Tally {
     }
 }
 
-/// Who is told of a port, and whether a desk is closed.
+/// A register of which it can be told what failed in it.
+pub trait Failing {
+    /// The calls that failed so far.
+    fn failures(&self) -> Failures;
+}
+
+impl Failing for ListRegister {
+    fn failures(&self) -> Failures {
+        Failures::none()
+    }
+}
+
+impl<S: Alter + Drop> Failing for MirroredRegister<ListRegister, SqlRegister<S>> {
+    fn failures(&self) -> Failures {
+        self.tables().failures()
+    }
+}
+
+/// Who is told of a port, of what failed, and whether a desk is closed.
 pub trait Watch {
     /// The port can be listened at, or not.
     fn bound<T>(&self, port: u16, bound: &io::Result<T>);
 
-    /// The desk is closed or not, now that a request was answered.
-    fn look(&mut self, is_closed: bool);
+    /// The desk is closed or not, and its register met these failures, now that requests were answered.
+    fn look(&mut self, is_closed: bool, failures: Failures);
 }
 
 /// Tells of a port alone: a desk in memory stays open.
@@ -72,7 +92,25 @@ impl Watch for Crier<'_> {
         }
     }
 
-    fn look(&mut self, _is_closed: bool) {}
+    fn look(&mut self, _is_closed: bool, _failures: Failures) {}
+}
+
+/// The code of what the library told, where it has one.
+fn code_of(error: &Error) -> Option<ErrorCode> {
+    match error {
+        Error::SqliteFailure(code) => Some(*code),
+        _ => None,
+    }
+}
+
+/// What a code tells of a file, where it tells which thing failed.
+fn words_of(code: Option<ErrorCode>) -> Option<&'static str> {
+    match code {
+        Some(ErrorCode::DatabaseBusy) => Some("another program has it open, or its log"),
+        Some(ErrorCode::DiskFull) => Some("no room is left on its device"),
+        Some(ErrorCode::DatabaseCorrupt) => Some("its device gave other bytes than it took"),
+        _ => None,
+    }
 }
 
 /// Tells of a file.
@@ -84,6 +122,8 @@ pub struct Teller<'a> {
     is_watched: bool,
     /// Whether it was told that the desk is closed
     has_told: bool,
+    /// How many failures had been met when it was last looked
+    failures: u64,
     /// How many entries were read when the file was opened
     entries: u64,
     /// The day of the last run among them, if there is one
@@ -102,6 +142,7 @@ impl<'a> Teller<'a> {
             path,
             is_watched: rt.stderr().is_terminal(),
             has_told: false,
+            failures: 0,
             entries: 0,
             last_run: None,
             version: None,
@@ -177,17 +218,10 @@ impl<'a> Teller<'a> {
 
     /// Tells how the file failed: what the library told, or what stands in its way. Once it was open, the system says no more.
     fn failed_so(&self, was_open: bool) {
-        match self.code {
-            Some(ErrorCode::DatabaseBusy) => self.tell(
-                61,
-                "another program has it open, or its log",
-            ),
-            Some(ErrorCode::DiskFull) => self.tell(61, "no room is left on its device"),
-            Some(ErrorCode::DatabaseCorrupt) => {
-                self.tell(61, "its device gave other bytes than it took")
-            }
-            _ if was_open => self.device_failed(),
-            _ => self.obstructed(),
+        match words_of(self.code) {
+            Some(words) => self.tell(61, words),
+            None if was_open => self.device_failed(),
+            None => self.obstructed(),
         }
     }
 
@@ -254,6 +288,16 @@ impl<'a> Teller<'a> {
     /// Tells that there is no file.
     pub fn missing(&self) {
         self.tell(61, "there is no such file, and none is made");
+    }
+
+    /// Tells what a call on the file met that failed; nothing of one behind an earlier one that closed it.
+    pub fn met(&self, error: &Error) {
+        let code = code_of(error);
+        if let Some(ErrorCode::Closed) = code {
+            return;
+        }
+        let words = words_of(code).unwrap_or("its device failed as it was read, or written");
+        let _ = eprintln!(self.rt; "desk: {}: a call on it failed: {words}", self.path);
     }
 
     /// Tells that the file could not be closed.
@@ -374,8 +418,8 @@ impl Progress for Teller<'_> {
     }
 
     fn failed(&mut self, error: &Error) {
-        if let Error::SqliteFailure(code) = error {
-            self.code = Some(*code);
+        if let Some(code) = code_of(error) {
+            self.code = Some(code);
         }
     }
 
@@ -395,7 +439,13 @@ impl Watch for Teller<'_> {
         Crier { rt: self.rt }.bound(port, bound);
     }
 
-    fn look(&mut self, is_closed: bool) {
+    fn look(&mut self, is_closed: bool, failures: Failures) {
+        if failures.count > self.failures {
+            if let Some(error) = &failures.last {
+                self.met(error);
+            }
+        }
+        self.failures = failures.count;
         if is_closed && !self.has_told {
             self.has_told = true;
             let _ = eprintln!(self.rt;

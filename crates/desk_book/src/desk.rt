@@ -69,6 +69,13 @@ impl<R: Register> Desk<R> {
         }
     }
 
+    /// The register, to be looked at.
+    pub fn register(&self) -> &R
+        ensures { result.now ≡ self.now.register }
+    {
+        &self.register
+    }
+
     /// The register, as it stands now. That of an open desk is ready for another.
     pub fn into_register(self) -> R
         ensures register { result ≡ self.register }

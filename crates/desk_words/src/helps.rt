@@ -91,9 +91,9 @@ Example:
 /// Of `desk explain`
 pub const EXPLAIN: &str = "\
 The words are those of an answer, as `refused 7 19A`, `5 REAG`, `fault 61` or `fault io`; `refused` and `fault`
-may be left out. Behind 5, 6 and 7 stands the field that is named, or each; behind 30 the command or the member
-that is named, or each. `refused 404` and its like, with three digits, are HTTP's own: the status of the answer
-once more. Words that no answer has are refused.
+may be left out, and either may stand for the other. Behind 5, 6 and 7 stands the field that is named, or each;
+behind 30 the command or the member that is named, or each. `refused 404` and its like, with three digits, are
+HTTP's own: the status of the answer once more. Other words are refused.
 
 Example:
   ./desk explain refused 7 19A";

@@ -80,7 +80,7 @@ pub const OTHERS: [Other; 7] = [
         "fault",
         "io",
         "what was to be read cannot be, or is too long, the answers cannot be written into a folder, or nobody can listen at the port",
-        "Standard error tells which file, folder or port it is, and why: it is not there, is a folder or none, may not be read or written, is in use by another program, has a name that cannot be taken, or the device is full; where it tells none, it is standard input. Nothing more was asked then: mend it, and run it again.",
+        "Standard error tells which file, folder or port it is, or that it is standard input, and why: it is not there, is a folder or none, may not be read or written, is in use by another program, has a name that cannot be taken, is too long, or the device is full. Nothing more was asked then: mend it, and run it again.",
     ),
 ];
 

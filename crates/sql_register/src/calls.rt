@@ -42,7 +42,10 @@ impl<S: Alter> Register for SqlRegister<S> {
                 self.stage = Stage::Begun;
                 Ok(())
             }
-            Err(error) => Err(fault_of(error)),
+            Err(error) => {
+                self.failures.add(error);
+                Err(fault_of(error))
+            }
         }
     }
 
@@ -53,6 +56,7 @@ impl<S: Alter> Register for SqlRegister<S> {
                 Ok(())
             }
             Err(error) => {
+                self.failures.add(error);
                 self.stage = Stage::Failed;
                 Err(fault_of(error))
             }
@@ -66,7 +70,10 @@ impl<S: Alter> Register for SqlRegister<S> {
                 self.stage = Stage::Idle;
                 Ok(())
             }
-            Err(error) => Err(fault_of(error)),
+            Err(error) => {
+                self.failures.add(error);
+                Err(fault_of(error))
+            }
         }
     }
 
@@ -75,24 +82,41 @@ impl<S: Alter> Register for SqlRegister<S> {
     }
 
     fn count(&mut self, _alloc: Global) -> Result<u64, Fault> {
-        told(&mut self.stage, entry_count(&mut self.conn))
+        told(
+            &mut self.stage,
+            &mut self.failures,
+            entry_count(&mut self.conn),
+        )
     }
 
     fn participant(&mut self, _alloc: Global, bic: Bic) -> Result<bool, Fault> {
-        told(&mut self.stage, is_participant(&mut self.conn, bic))
+        told(
+            &mut self.stage,
+            &mut self.failures,
+            is_participant(&mut self.conn, bic),
+        )
     }
 
     fn owner(&mut self, _alloc: Global, account: AccountId) -> Result<Option<Bic>, Fault> {
-        told(&mut self.stage, owner_of(&mut self.conn, account))
+        told(
+            &mut self.stage,
+            &mut self.failures,
+            owner_of(&mut self.conn, account),
+        )
     }
 
     fn security(&mut self, _alloc: Global, isin: Isin) -> Result<Option<Kind>, Fault> {
-        told(&mut self.stage, kind_of(&mut self.conn, isin))
+        told(
+            &mut self.stage,
+            &mut self.failures,
+            kind_of(&mut self.conn, isin),
+        )
     }
 
     fn outstanding(&mut self, _alloc: Global, isin: Isin) -> Result<u64, Fault> {
         told(
             &mut self.stage,
+            &mut self.failures,
             looking::recorded(&mut self.conn, &AmountKey::Security(isin)),
         )
     }
@@ -100,12 +124,17 @@ impl<S: Alter> Register for SqlRegister<S> {
     fn paid(&mut self, _alloc: Global, ccy: Ccy) -> Result<Option<u64>, Fault> {
         told(
             &mut self.stage,
+            &mut self.failures,
             amount(&mut self.conn, &AmountKey::Currency(ccy)),
         )
     }
 
     fn last_run(&mut self, _alloc: Global) -> Result<Option<Day>, Fault> {
-        told(&mut self.stage, last_run(&mut self.conn))
+        told(
+            &mut self.stage,
+            &mut self.failures,
+            last_run(&mut self.conn),
+        )
     }
 
     fn number_of(
@@ -116,20 +145,33 @@ impl<S: Alter> Register for SqlRegister<S> {
     ) -> Result<Option<u64>, Fault> {
         told(
             &mut self.stage,
+            &mut self.failures,
             number_of(&mut self.conn, sender, reference),
         )
     }
 
     fn entry(&mut self, alloc: Global, number: u64) -> Result<Option<Entry>, Fault> {
-        told(&mut self.stage, entry_at(&mut self.conn, alloc, number))
+        told(
+            &mut self.stage,
+            &mut self.failures,
+            entry_at(&mut self.conn, alloc, number),
+        )
     }
 
     fn standing(&mut self, _alloc: Global, number: u64) -> Result<Standing, Fault> {
-        told(&mut self.stage, standing(&mut self.conn, number))
+        told(
+            &mut self.stage,
+            &mut self.failures,
+            standing(&mut self.conn, number),
+        )
     }
 
     fn reply(&mut self, alloc: Global, number: u64) -> Result<Option<Reply>, Fault> {
-        told(&mut self.stage, reply_at(&mut self.conn, alloc, number))
+        told(
+            &mut self.stage,
+            &mut self.failures,
+            reply_at(&mut self.conn, alloc, number),
+        )
     }
 
     fn first_opposite(
@@ -140,6 +182,7 @@ impl<S: Alter> Register for SqlRegister<S> {
     ) -> Result<Option<u64>, Fault> {
         told(
             &mut self.stage,
+            &mut self.failures,
             walking::first_opposite(&mut self.conn, sender, instruction),
         )
     }
@@ -147,6 +190,7 @@ impl<S: Alter> Register for SqlRegister<S> {
     fn position(&mut self, _alloc: Global, account: AccountId, isin: Isin) -> Result<u64, Fault> {
         told(
             &mut self.stage,
+            &mut self.failures,
             looking::recorded(&mut self.conn, &AmountKey::Balance(account, isin)),
         )
     }
@@ -154,6 +198,7 @@ impl<S: Alter> Register for SqlRegister<S> {
     fn cash(&mut self, _alloc: Global, bic: Bic, ccy: Ccy) -> Result<u64, Fault> {
         told(
             &mut self.stage,
+            &mut self.failures,
             looking::recorded(&mut self.conn, &AmountKey::Cash(bic, ccy)),
         )
     }
@@ -166,6 +211,7 @@ impl<S: Alter> Register for SqlRegister<S> {
     ) -> Result<Option<Place>, Fault> {
         told(
             &mut self.stage,
+            &mut self.failures,
             walking::due_pair_after(&mut self.conn, alloc, day, place),
         )
     }
@@ -175,7 +221,11 @@ impl<S: Alter> Register for SqlRegister<S> {
         _alloc: Global,
         isin: Option<Isin>,
     ) -> Result<Option<Isin>, Fault> {
-        told(&mut self.stage, security_after(&mut self.conn, isin))
+        told(
+            &mut self.stage,
+            &mut self.failures,
+            security_after(&mut self.conn, isin),
+        )
     }
 
     fn holding_after(
@@ -186,29 +236,47 @@ impl<S: Alter> Register for SqlRegister<S> {
     ) -> Result<Option<Holding>, Fault> {
         told(
             &mut self.stage,
+            &mut self.failures,
             looking::holding_after(&mut self.conn, account, isin),
         )
     }
 
     fn held(&mut self, _alloc: Global, isin: Isin) -> Result<u64, Fault> {
-        told(&mut self.stage, sql_rows::held(&mut self.conn, isin))
+        told(
+            &mut self.stage,
+            &mut self.failures,
+            sql_rows::held(&mut self.conn, isin),
+        )
     }
 
     fn held_cash(&mut self, _alloc: Global, ccy: Ccy) -> Result<u64, Fault> {
-        told(&mut self.stage, sql_rows::held_cash(&mut self.conn, ccy))
+        told(
+            &mut self.stage,
+            &mut self.failures,
+            sql_rows::held_cash(&mut self.conn, ccy),
+        )
     }
 
     fn sent_count(&mut self, _alloc: Global) -> Result<u64, Fault> {
-        told(&mut self.stage, sent_count(&mut self.conn))
+        told(
+            &mut self.stage,
+            &mut self.failures,
+            sent_count(&mut self.conn),
+        )
     }
 
     fn sent(&mut self, alloc: Global, bic: Bic, number: u64) -> Result<Option<Sent>, Fault> {
-        told(&mut self.stage, sent_at(&mut self.conn, alloc, bic, number))
+        told(
+            &mut self.stage,
+            &mut self.failures,
+            sent_at(&mut self.conn, alloc, bic, number),
+        )
     }
 
     fn confirmation(&mut self, alloc: Global, number: u64) -> Result<Option<Sent>, Fault> {
         told(
             &mut self.stage,
+            &mut self.failures,
             confirmation_of(&mut self.conn, alloc, number),
         )
     }
@@ -216,6 +284,7 @@ impl<S: Alter> Register for SqlRegister<S> {
     fn append(&mut self, _alloc: Global, entry: Entry, reply: Reply) -> Result<(), Fault> {
         told(
             &mut self.stage,
+            &mut self.failures,
             appending::append(&mut self.conn, &entry, &reply),
         )
     }
@@ -223,6 +292,7 @@ impl<S: Alter> Register for SqlRegister<S> {
     fn pair(&mut self, _alloc: Global, earlier: u64, later: u64) -> Result<(), Fault> {
         told(
             &mut self.stage,
+            &mut self.failures,
             stand_both(
                 &mut self.conn,
                 earlier,
@@ -235,24 +305,34 @@ impl<S: Alter> Register for SqlRegister<S> {
     fn settle_pair(&mut self, alloc: Global, number: u64, _day: Day) -> Result<Outcome, Fault> {
         told(
             &mut self.stage,
+            &mut self.failures,
             settling::settle_pair(&mut self.conn, alloc, number),
         )
     }
 
     fn cancel(&mut self, _alloc: Global, number: u64) -> Result<(), Fault> {
-        told(&mut self.stage, cancelling::cancel(&mut self.conn, number))
+        told(
+            &mut self.stage,
+            &mut self.failures,
+            cancelling::cancel(&mut self.conn, number),
+        )
     }
 
     fn cancel_pair(&mut self, _alloc: Global, earlier: u64, later: u64) -> Result<(), Fault> {
         told(
             &mut self.stage,
+            &mut self.failures,
             stand_both(&mut self.conn, earlier, later, State::Cancelled),
         )
     }
 
     fn send(&mut self, _alloc: Global, message: Sent) -> Result<(), Fault> {
         sendable(&message);
-        told(&mut self.stage, add_sent(&mut self.conn, &message))
+        told(
+            &mut self.stage,
+            &mut self.failures,
+            add_sent(&mut self.conn, &message),
+        )
     }
 }
 
@@ -266,6 +346,7 @@ impl<S: Alter> ToldRegister for SqlRegister<S> {
     ) -> Result<(), Fault> {
         told(
             &mut self.stage,
+            &mut self.failures,
             stand_both(
                 &mut self.conn,
                 earlier,
@@ -283,6 +364,7 @@ impl<S: Alter> ToldRegister for SqlRegister<S> {
     ) -> Result<Outcome, Fault> {
         told(
             &mut self.stage,
+            &mut self.failures,
             settling::settle_found(&mut self.conn, pair),
         )
     }

@@ -22,5 +22,6 @@ mod sql_register;
 mod undoing;
 mod walking;
 
+pub use fault::Failures;
 pub use making::has_no_table;
 pub use sql_register::SqlRegister;

@@ -15,6 +15,7 @@ ghost use Rattle.sql_register.specs.Holds.{Becomes};
 ghost use Rattle.sql_register.specs.Kept.{shown, IsKept};
 ghost use Rattle.sql_register.specs.Made.{IsMade};
 
+use crate::fault::Failures;
 use crate::sql_register::SqlRegister;
 use desk_register::Stage;
 use sql_tables::control::commit;
@@ -113,7 +114,13 @@ impl<S: Alter + Drop> SqlRegister<S> {
             conn,
             stage: Stage::Idle,
             limit,
+            failures: Failures::none(),
         }
+    }
+
+    /// The calls on its tables that failed so far.
+    pub fn failures(&self) -> Failures {
+        self.failures
     }
 
     /// The connection, handed back, with the tables of a desk: what it shows is committed where no `begin` is open.

@@ -1,4 +1,5 @@
 //! A register that keeps its content in SQL tables.
+use crate::fault::Failures;
 use desk_register::Stage;
 use sqlite::{Alter, Connection};
 use std::marker::Model;
@@ -11,6 +12,7 @@ pub struct SqlRegister<S: Alter> {
     pub(crate) stage: Stage,
     /// At most `MOST_ENTRIES`
     pub(crate) limit: u64,
+    pub(crate) failures: Failures,
 }
 
 impl<S: Alter> Model for SqlRegister<S> {

@@ -11,7 +11,7 @@ ghost use Rattle.desk.specs.DropAnswer.{AreTakenFrom, IsFolderEnd, IsFolderFailu
 
 use crate::folders::{BEHIND, Found, put_answer, read_folder, try_folder};
 use crate::status::{Failure, Status, tell_failure};
-use crate::teller::{Tally, Teller, Watch};
+use crate::teller::{Failing, Tally, Teller, Watch};
 use desk_book::{Desk, Fault, add_answer, add_fault};
 use desk_drop::{DropFile, DropReply, take};
 use desk_register::Register;
@@ -38,7 +38,7 @@ struct AnswerFile {
 /// Takes the files of a folder on a desk that is open, and writes the answers into another folder. It is done where each answer is
 /// written, whatever it is; nothing is told then. `fault io` tells that a folder failed, `fault 60` that memory is wanting. What
 /// was accepted stands.
-pub fn take_folder<D: Register + Drop, W: Sink>(
+pub fn take_folder<D: Register + Failing + Drop, W: Sink>(
     rt: &HostRuntime,
     desk: &mut Desk<D>,
     teller: &mut Teller<'_>,
@@ -67,7 +67,7 @@ fn tell_done<W: Sink>(done: Result<(), Failure>, writer: &mut W) -> io::Result<S
 }
 
 /// Takes a folder on a desk that is open.
-fn drop_on<D: Register + Drop>(
+fn drop_on<D: Register + Failing + Drop>(
     rt: &HostRuntime,
     desk: &mut Desk<D>,
     teller: &mut Teller<'_>,
@@ -91,7 +91,7 @@ fn read_all(rt: &HostRuntime, teller: &Teller<'_>, folders: Folders<'_>) -> io::
 }
 
 /// Takes the files that were read on a desk that is open, and writes their answers to a folder.
-fn answer_all<D: Register + Drop>(
+fn answer_all<D: Register + Failing + Drop>(
     rt: &HostRuntime,
     desk: &mut Desk<D>,
     teller: &mut Teller<'_>,
@@ -107,7 +107,7 @@ fn answer_all<D: Register + Drop>(
         return Err(Failure::Memory);
     };
     let taken = take_on(rt.alloc(), desk, &files);
-    teller.look(desk.is_closed());
+    teller.look(desk.is_closed(), desk.register().failures());
     match taken {
         Ok(replies) => write_all(rt, teller, folder, &files, &replies),
         Err(_) => Err(Failure::Memory),

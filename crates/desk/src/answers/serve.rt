@@ -9,7 +9,7 @@ ghost use Rattle.desk_http.specs.Served.{Serves};
 ghost use Rattle.desk.specs.ServeAnswer.{HoldsOn, IsServeAnswer, listening_line};
 
 use crate::status::{Failure, Status, tell_failure};
-use crate::teller::{Crier, Watch};
+use crate::teller::{Crier, Failing, Watch};
 use desk_book::Desk;
 use desk_http::{Routes, serve_one};
 use desk_register::Register;
@@ -51,7 +51,7 @@ pub fn answer_serve<W: Sink>(
 /// Serves so many connections on a desk, once it has told where it listens.
 pub fn serve_desk<
     N: Net<Listener = TcpListener, Stream = TcpStream>,
-    D: Register + Drop,
+    D: Register + Failing + Drop,
     P: Watch,
     W: Sink,
 >(
@@ -82,7 +82,7 @@ pub fn serve_desk<
 }
 
 /// Serves so many connections, one after another, of which those that could not be accepted are passed over.
-fn serve_all<D: Register + Drop, P: Watch>(
+fn serve_all<D: Register + Failing + Drop, P: Watch>(
     alloc: Global,
     routes: &Routes,
     listener: &TcpListener,
@@ -98,7 +98,7 @@ fn serve_all<D: Register + Drop, P: Watch>(
         if let Ok((stream, _)) = listener.accept() {
             serve_stream(alloc, routes, &stream, desk);
             see_off(&stream);
-            watch.look(desk.is_closed());
+            watch.look(desk.is_closed(), desk.register().failures());
         }
     }
 }
