@@ -2,8 +2,7 @@
 use Rattle.std.proofs.Common.{◌≡◌, ℕ, Bool, false, [], IsTrue, Option, refl, sym, ap, ◌∙◌, subst, arith}
 use Rattle.std.specs.Prelude.{is_some, Result, Ok, Err, IfErr, IfOk}
 use Rattle.sqlite.specs.Files.{file_state, IsClosed}
-use Rattle.sqlite.specs.Held.{Held, state}
-use Rattle.sqlite_trees.specs.declared.store.Store.{Ghosts as Stores}
+use Rattle.sqlite.specs.Held.{Held}
 use Rattle.sqlite.specs.State.{State, HasCleanDisk, IsLive}
 use Rattle.sqlite_disk.specs.declared.Disk.{Ghosts}
 use Rattle.sqlite_disk.specs.declared.Files.{Files}
@@ -26,10 +25,10 @@ use Rattle.desk.specs.Left.{AreLeft, AreSaid, IsCleanBehind, IsLeft, LeavesSome,
 use Rattle.desk.specs.PlayAnswer.{KeptBy}
 
 -- of a connection that was handed on the same is known
-pub same_handed : {S : Type 0} (store : Stores S) (given handed : Held S) (content : Content) → handed ≡ given → (HasCleanDisk (state store given) → IsTrue (state store given).is_open → content ≡ content_in (state store given).now)
-    → HasCleanDisk (state store handed) → IsTrue (state store handed).is_open → content ≡ content_in (state store handed).now
-same_handed {S} store given handed content is same =
-    let Same : Held S → Type 0 = λ k. HasCleanDisk (state store k) → IsTrue (state store k).is_open → content ≡ content_in (state store k).now in
+pub same_handed : {S : Type 0} (state : S → State) (given handed : S) (content : Content) → handed ≡ given → (HasCleanDisk (state given) → IsTrue (state given).is_open → content ≡ content_in (state given).now)
+    → HasCleanDisk (state handed) → IsTrue (state handed).is_open → content ≡ content_in (state handed).now
+same_handed {S} state given handed content is same =
+    let Same : S → Type 0 = λ k. HasCleanDisk (state k) → IsTrue (state k).is_open → content ≡ content_in (state k).now in
     subst Same (sym is) same
 
 -- tables with no `begin` open that say what books come to
@@ -39,12 +38,12 @@ tables_say s stage content books idle kept live same keeps = λ clean is_open.
     record { is = (live is_open).1; content = content; keeps = keeps; tables = record { desk = desk.committed; content_is = sym (same clean is_open ∙ ap content_in (desk.idle idle)) } }
 
 -- what is left of a desk its tables say
-pub said_left : {S C : Type 0} (store : Stores S) (mark : Option C) (held : Both ListRegister (Kept S)) (s : State) → (view_of_both store held).room ≡ MOST_ENTRIES → IsReady (is_some mark) (view_of_both store held)
-    → (held.stage ≡ Idle → (books : Books) → KeptBy (view_of_both store held) books → TablesSay s books) → PassesOn (IsLeft (is_some mark) (view_of_both store held)) (AreSaid mark s)
-said_left {S} store mark held s most ready say = record {
+pub said_left : {S C : Type 0} (state : S → State) (mark : Option C) (held : Both ListRegister (Kept S)) (s : State) → (view_of_both state held).room ≡ MOST_ENTRIES → IsReady (is_some mark) (view_of_both state held)
+    → (held.stage ≡ Idle → (books : Books) → KeptBy (view_of_both state held) books → TablesSay s books) → PassesOn (IsLeft (is_some mark) (view_of_both state held)) (AreSaid mark s)
+said_left {S} state mark held s most ready say = record {
   each = λ is_closed books left. record {
     closed = left.closed;
-    says = λ stays. say (ready.stage (left.closed ∙ stays)) books (subst (λ k. KeepsFormed k books (view_of_both store held).content) most (left.holds stays));
+    says = λ stays. say (ready.stage (left.closed ∙ stays)) books (subst (λ k. KeepsFormed k books (view_of_both state held).content) most (left.holds stays));
   };
 }
 
@@ -65,10 +64,10 @@ clean_before connection (Ok files) closed unclosed clean = (closed clean).was_cl
 clean_before connection (Err it) closed unclosed clean = (let q = unclosed.quiet.clean in omega (arith, q, clean))
 
 -- that the tables were trusted behind a call, so before it
-pub clean_on : {S : Type 0} (store : Stores S) (old new : Both ListRegister (Kept S)) (connection : Held S) → IsLater (view_of_both store old) (view_of_both store new) → connection ≡ new.tables.connection
-    → HasCleanDisk (state store connection) → HasCleanDisk (state store old.tables.connection)
-clean_on {S} store old new connection later is clean =
-    let Clean : Held S → Type 0 = λ k. HasCleanDisk (state store k) in
+pub clean_on : {S : Type 0} (state : S → State) (old new : Both ListRegister (Kept S)) (connection : S) → IsLater (view_of_both state old) (view_of_both state new) → connection ≡ new.tables.connection
+    → HasCleanDisk (state connection) → HasCleanDisk (state old.tables.connection)
+clean_on {S} state old new connection later is clean =
+    let Clean : S → Type 0 = λ k. HasCleanDisk (state k) in
     let now = subst Clean is clean in
     (later.device_honest (now, now)).0
 

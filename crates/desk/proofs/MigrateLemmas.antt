@@ -4,7 +4,6 @@ use Rattle.std.specs.Prelude.{Result, Ok, Err, IfOk, IsOkAnd, OnOk}
 use Rattle.sqlite.specs.Files.{file_state}
 use Rattle.sqlite.specs.Held.{Held}
 use Rattle.sqlite.specs.State.{State}
-use Rattle.sqlite_trees.specs.declared.store.Store.{Ghosts as Stores}
 use Rattle.sqlite_disk.specs.declared.Disk.{Ghosts}
 use Rattle.sqlite_disk.specs.declared.Files.{Files}
 use Rattle.sqlite_store.specs.declared.store.FileStore.{FileStore}
@@ -27,15 +26,15 @@ use Rattle.desk.specs.declared.answers.migrate.Made.{Made}
 use Rattle.desk.specs.PlayAnswer.{KeptBy}
 
 -- what a history was put into, the tables say it
-pub said : {S E : Type 0} (store : Stores S) (old new : Both ListRegister (Kept S)) (s : State) (r : Result (Unit {0}) E) (entries : List Entry) → (view_of_both store old).room ≡ MOST_ENTRIES → (view_of_both store new).is_honest → AreWellFormed entries
-    → OnOk r (new.stage ≡ Idle) → ((view_of_both store new).is_honest → OnOk r (HoldsEntries (view_of_both store old).room entries (view_of_both store new).content))
-    → (new.stage ≡ Idle → (books : Books) → KeptBy (view_of_both store new) books → TablesSay s books) → OnOk r (SayHistory s entries)
-said {S} {E} store old new s (Ok done) entries most honest formed stage holds say =
+pub said : {S E : Type 0} (state : S → State) (old new : Both ListRegister (Kept S)) (s : State) (r : Result (Unit {0}) E) (entries : List Entry) → (view_of_both state old).room ≡ MOST_ENTRIES → (view_of_both state new).is_honest → AreWellFormed entries
+    → OnOk r (new.stage ≡ Idle) → ((view_of_both state new).is_honest → OnOk r (HoldsEntries (view_of_both state old).room entries (view_of_both state new).content))
+    → (new.stage ≡ Idle → (books : Books) → KeptBy (view_of_both state new) books → TablesSay s books) → OnOk r (SayHistory s entries)
+said {S} {E} state old new s (Ok done) entries most honest formed stage holds say =
     let h = holds honest in
-    let content = (view_of_both store new).content in
+    let content = (view_of_both state new).content in
     let kept : KeepsFormed MOST_ENTRIES h.holds.books content = record { tables = subst (λ room. Keeps room h.holds.books content) most h.holds.keeps; formed = subst AreWellFormed (sym h.history) formed } in
     record { books = h.holds.books; history = h.history; says = say stage h.holds.books kept }
-said {S} {E} store old new s (Err e) entries most honest formed stage holds say = tt
+said {S} {E} state old new s (Err e) entries most honest formed stage holds say = tt
 
 -- and, once they were closed, the files
 held_files : {D : Type 0} {g : Ghosts D} (connection : Held (FileStore D g)) (files : Result (Files D) (FileStore D g)) (entries : List Entry) → IsOkAnd files (AreClosed connection) → SayHistory (file_state connection) entries → HoldHistory files entries

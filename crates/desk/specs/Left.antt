@@ -3,6 +3,7 @@ use Rattle.std.specs.Prelude.{◌≡◌, ℕ, Bool, false, is_some, IfOk, IsTrue
 use Rattle.sqlite.specs.Closing.{HoldsAlone}
 use Rattle.sqlite.specs.Effect.{Database}
 use Rattle.sqlite.specs.Files.{file_state, image_of}
+use Rattle.sqlite.specs.Held.{Held}
 use Rattle.sqlite.specs.State.{State, HasCleanDisk}
 use Rattle.sqlite_disk.specs.declared.Disk.{Ghosts}
 use Rattle.sqlite_disk.specs.declared.Files.{Files}
@@ -30,7 +31,7 @@ use Rattle.desk_file.specs.Said.{SaysBooks}
 use Rattle.desk_book.specs.declared.fault.Fault.{Fault}
 
 -- What was opened is what files held that hold this, where no wrong answer of the device was taken as true.
-abbrev pub IsFoundIn : {D : Type 0} {g : Ghosts D} → Image → Both ListRegister (Kept (FileStore D g)) → Type 0
+abbrev pub IsFoundIn : {D : Type 0} {g : Ghosts D} → Image → Both ListRegister (Kept (Held (FileStore D g))) → Type 0
 IsFoundIn image both = HasCleanDisk (file_state both.tables.connection) → FindsIn image (file_state both.tables.connection).committed (view_of_lists both.memory).content
 
 -- Files that hold this image hold tables that say these books; or no table yet, and the books are those of no history.

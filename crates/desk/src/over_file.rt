@@ -1,8 +1,7 @@
 //! What is done over the desk of a file, which is opened before it, and closed behind it.
 ghost use Rattle.std.specs.Prelude.{◌≡◌, true, false, is_ok, is_some, None, IfErr, IfOk, IfSome, OnErr};
 ghost use Rattle.std.specs.Io.KnownBytes.{Appends};
-ghost use Rattle.sqlite.specs.Files.{file_state, over_files};
-ghost use Rattle.sqlite.specs.Held.{state};
+ghost use Rattle.sqlite.specs.Files.{file_state};
 ghost use Rattle.sqlite.specs.State.{HasCleanDisk};
 ghost use Rattle.sqlite_wal.specs.Files.{image_at};
 ghost use Rattle.desk_rules.specs.Books.{Books};
@@ -31,8 +30,8 @@ use desk_register::Register;
 use desk_report::Format;
 use desk_streams::{Sink, Source};
 use memory_register::ListRegister;
-use sql_register::SqlRegister;
-use sqlite::{Alter, Connection, FileFrom, Start};
+use sql_register::{Session, SqlRegister};
+use sqlite::{FileFrom, Start};
 use sqlite_disk::Disk;
 use std::io;
 use std::rt::HostRuntime;
@@ -93,7 +92,7 @@ fn open_for<S: Start>(
     start: S,
     job: &Job<'_>,
 ) -> Result<FileRegister<FileFrom<S>>, Failure>
-    ensures opened { IfOk result (IsOpened over_files MOST_ENTRIES) }
+    ensures opened { IfOk result (IsOpened file_state MOST_ENTRIES) }
     ensures which { IfOk result (IsFoundIn (image_at S.Start)) }
     ensures failure { IfErr result IsOpeningFailure }
 {
@@ -112,11 +111,11 @@ fn over_opened<D: Disk + Drop, R: Source, W: Sink>(
     reader: &mut R,
     writer: &mut W,
 ) -> (io::Result<Status>, Behind<D>)
-    requires { IsReadyFor MOST_ENTRIES (view_of_both over_files both) }
-    ensures told { (books : Books) → KeptBy (view_of_both over_files both) books
+    requires { IsReadyFor MOST_ENTRIES (view_of_both file_state both) }
+    ensures told { (books : Books) → KeptBy (view_of_both file_state both) books
         → IfOk result.0 (λ status. IsOpenAnswer job.now (is_ok result.1.files) (AreLeft D.Disk result.1.was_closed result.1.files) books (R.remaining reader.old) (reader.new ≡ reader.old) R.may_fail status (Appends (W.contents writer.old) (W.contents writer.new))) }
     ensures answered { IfOk result.0 (λ status. IsFileAnswer job.now (R.remaining reader.old) (reader.new ≡ reader.old) R.may_fail status (Appends (W.contents writer.old) (W.contents writer.new))) }
-    ensures left { (books : Books) → KeptBy (view_of_both over_files both) books → LeavesFiles D.Disk job.now result.0 result.1.was_closed result.1.files books (R.remaining reader.old) }
+    ensures left { (books : Books) → KeptBy (view_of_both file_state both) books → LeavesFiles D.Disk job.now result.0 result.1.was_closed result.1.files books (R.remaining reader.old) }
     ensures clean { IsCleanBehind result.1.files → HasCleanDisk (file_state both.tables.connection) }
     ensures failed { OnErr result.0 (W.may_fail ≡ true) }
 {
@@ -127,17 +126,17 @@ fn over_opened<D: Disk + Drop, R: Source, W: Sink>(
 
 /// The job over tables with a register in memory beside them, of which the connection is given back, with that the desk was closed,
 /// where it was.
-fn over_both<S: Alter + Drop, R: Source, W: Sink>(
+fn over_both<S: Session + Drop, R: Source, W: Sink>(
     rt: &HostRuntime,
     both: MirroredRegister<ListRegister, SqlRegister<S>>,
     job: &Job<'_>,
     teller: &mut Teller<'_>,
     reader: &mut R,
     writer: &mut W,
-) -> (io::Result<Status>, Option<WasClosed>, Connection<S>)
-    requires { IsReadyFor MOST_ENTRIES (view_of_both S.Store both) }
-    ensures done { IsDone job.now (KeptBy (view_of_both S.Store both)) (AreSaid result.1 (state S.Store result.2)) (R.remaining reader.old) (reader.new ≡ reader.old) R.may_fail result.0 (Appends (W.contents writer.old) (W.contents writer.new)) }
-    ensures clean { HasCleanDisk (state S.Store result.2) → HasCleanDisk (state S.Store both.tables.connection) }
+) -> (io::Result<Status>, Option<WasClosed>, S)
+    requires { IsReadyFor MOST_ENTRIES (view_of_both S.state both) }
+    ensures done { IsDone job.now (KeptBy (view_of_both S.state both)) (AreSaid result.1 (S.state result.2)) (R.remaining reader.old) (reader.new ≡ reader.old) R.may_fail result.0 (Appends (W.contents writer.old) (W.contents writer.new)) }
+    ensures clean { HasCleanDisk (S.state result.2) → HasCleanDisk (S.state both.tables.connection) }
     ensures failed { OnErr result.0 (W.may_fail ≡ true) }
 {
     match job {
@@ -154,17 +153,17 @@ fn over_both<S: Alter + Drop, R: Source, W: Sink>(
 }
 
 /// Asks the desk over such tables.
-fn ask_on_both<S: Alter + Drop, R: Source, W: Sink>(
+fn ask_on_both<S: Session + Drop, R: Source, W: Sink>(
     rt: &HostRuntime,
     both: MirroredRegister<ListRegister, SqlRegister<S>>,
     ask: &Ask<'_>,
     teller: &mut Teller<'_>,
     reader: &mut R,
     writer: &mut W,
-) -> (io::Result<Status>, Option<WasClosed>, Connection<S>)
-    requires { IsReadyFor MOST_ENTRIES (view_of_both S.Store both) }
-    ensures asked { IsAsked ask.now MOST_ENTRIES (KeptBy (view_of_both S.Store both)) (AreSaid result.1 (state S.Store result.2)) (R.remaining reader.old) (reader.new ≡ reader.old) R.may_fail result.0 (Appends (W.contents writer.old) (W.contents writer.new)) }
-    ensures clean { HasCleanDisk (state S.Store result.2) → HasCleanDisk (state S.Store both.tables.connection) }
+) -> (io::Result<Status>, Option<WasClosed>, S)
+    requires { IsReadyFor MOST_ENTRIES (view_of_both S.state both) }
+    ensures asked { IsAsked ask.now MOST_ENTRIES (KeptBy (view_of_both S.state both)) (AreSaid result.1 (S.state result.2)) (R.remaining reader.old) (reader.new ≡ reader.old) R.may_fail result.0 (Appends (W.contents writer.old) (W.contents writer.new)) }
+    ensures clean { HasCleanDisk (S.state result.2) → HasCleanDisk (S.state both.tables.connection) }
     ensures failed { OnErr result.0 (W.may_fail ≡ true) }
 {
     let (told, was_closed, both) = ask_on(rt, both, ask, teller, reader, writer);

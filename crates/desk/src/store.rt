@@ -1,8 +1,7 @@
 //! The desk of a file: opened, and closed again.
 ghost use Rattle.std.specs.Prelude.{◌≡◌, Ok, true, is_ok, IfErr, IfOk, OnErr};
 ghost use Rattle.std.specs.Io.KnownBytes.{Appends};
-ghost use Rattle.sqlite.specs.Files.{file_state, over_files, IsClosed};
-ghost use Rattle.sqlite.specs.Held.{state};
+ghost use Rattle.sqlite.specs.Files.{file_state, IsClosed};
 ghost use Rattle.sqlite_wal.specs.Files.{image_at};
 ghost use Rattle.desk_register.specs.declared.register.Stage.TheVariants.{Idle};
 ghost use Rattle.desk_file.specs.Opened.{IsOpened, view_of_both};
@@ -21,8 +20,8 @@ use desk_file::{MirroredRegister, is_live, open_file};
 use desk_rules::MOST_ENTRIES;
 use desk_streams::Sink;
 use memory_register::ListRegister;
-use sql_register::SqlRegister;
-use sqlite::{Alter, Connection, FileFrom, FileStore, Files, Start};
+use sql_register::{Session, SqlRegister};
+use sqlite::{Connection, FileFrom, FileStore, Files, Start};
 use sqlite_disk::Disk;
 use std::rt::HostRuntime;
 use std::{fs, io};
@@ -31,7 +30,7 @@ use std::{fs, io};
 const LONGEST_EMPTY_LOG: u64 = 64;
 
 /// A register in memory beside the tables of a file on such a disk.
-pub type FileRegister<D> = MirroredRegister<ListRegister, SqlRegister<FileStore<D>>>;
+pub type FileRegister<D> = MirroredRegister<ListRegister, SqlRegister<Connection<FileStore<D>>>>;
 
 /// What is behind a job that was done over the desk of a file.
 #[derive(Drop)]
@@ -49,7 +48,7 @@ pub fn open<S: Start>(
     path: &str,
     start: S,
 ) -> Result<FileRegister<FileFrom<S>>, Failure>
-    ensures opened { IfOk result (IsOpened over_files MOST_ENTRIES) }
+    ensures opened { IfOk result (IsOpened file_state MOST_ENTRIES) }
     ensures which { IfOk result (IsFoundIn (image_at S.Start)) }
     ensures failure { IfErr result IsOpeningFailure }
 {
@@ -73,7 +72,7 @@ pub fn open_there<S: Start>(
     path: &str,
     start: S,
 ) -> Result<FileRegister<FileFrom<S>>, Failure>
-    ensures opened { IfOk result (IsOpened over_files MOST_ENTRIES) }
+    ensures opened { IfOk result (IsOpened file_state MOST_ENTRIES) }
     ensures which { IfOk result (IsFoundIn (image_at S.Start)) }
     ensures failure { IfErr result IsOpeningFailure }
 {
@@ -87,7 +86,7 @@ fn open_found<S: Start>(
     start: S,
     found: io::Result<bool>,
 ) -> Result<FileRegister<FileFrom<S>>, Failure>
-    ensures opened { IfOk result (IsOpened over_files MOST_ENTRIES) }
+    ensures opened { IfOk result (IsOpened file_state MOST_ENTRIES) }
     ensures which { IfOk result (IsFoundIn (image_at S.Start)) }
     ensures found { IfOk result (λ both. found ≡ Ok true) }
     ensures failure { IfErr result IsOpeningFailure }
@@ -169,23 +168,21 @@ pub fn remove_log(rt: &HostRuntime, path: &str) -> io::Result<()> {
 }
 
 /// The connection to the tables of a register that is two.
-pub fn connection_of<S: Alter + Drop>(
-    both: MirroredRegister<ListRegister, SqlRegister<S>>,
-) -> Connection<S>
+pub fn connection_of<S: Session + Drop>(both: MirroredRegister<ListRegister, SqlRegister<S>>) -> S
     ensures connection { result ≡ both.tables.connection }
-    ensures left { both.stage ≡ Idle → (books : Books) → KeptBy (view_of_both S.Store both) books → TablesSay (state S.Store result) books }
+    ensures left { both.stage ≡ Idle → (books : Books) → KeptBy (view_of_both S.state both) books → TablesSay (S.state result) books }
 {
     parts_of(both).1
 }
 
 /// The same behind the register in memory.
-pub fn parts_of<S: Alter + Drop>(
+pub fn parts_of<S: Session + Drop>(
     both: MirroredRegister<ListRegister, SqlRegister<S>>,
-) -> (ListRegister, Connection<S>)
+) -> (ListRegister, S)
     ensures memory { result.0 ≡ both.memory }
     ensures idle { both.stage ≡ Idle → (view_of_lists result.0).stage ≡ Idle }
     ensures connection { result.1 ≡ both.tables.connection }
-    ensures left { both.stage ≡ Idle → (books : Books) → KeptBy (view_of_both S.Store both) books → TablesSay (state S.Store result.1) books }
+    ensures left { both.stage ≡ Idle → (books : Books) → KeptBy (view_of_both S.state both) books → TablesSay (S.state result.1) books }
 {
     let (memory, tables) = both.into_parts();
     let conn = tables.into_connection();

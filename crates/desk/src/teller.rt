@@ -7,8 +7,8 @@ use desk_codes::Day;
 use desk_file::{Difference, MirroredRegister, OpenFault, Progress, Table};
 use desk_rules::{Entry, Reply};
 use memory_register::ListRegister;
-use sql_register::{Failures, SqlRegister};
-use sqlite::{Alter, Error, ErrorCode};
+use sql_register::{Failures, Session, SqlRegister};
+use sqlite::{Error, ErrorCode};
 use std::io::{self, IsTerminal};
 
 /// So many entries are read before it is told how far the opening of a file is.
@@ -64,7 +64,7 @@ impl Failing for ListRegister {
     }
 }
 
-impl<S: Alter + Drop> Failing for MirroredRegister<ListRegister, SqlRegister<S>> {
+impl<S: Session + Drop> Failing for MirroredRegister<ListRegister, SqlRegister<S>> {
     fn failures(&self) -> Failures {
         self.tables().failures()
     }

@@ -8,8 +8,9 @@ use crate::damaged::keys::Keys;
 use crate::failure::Failure;
 pub use calls::Call;
 use sql_tables::making::make_tables;
+use sql_tables::session::Session;
 use sql_tables::values::CORRUPT;
-use sqlite::{Alter, Connection, Error, ErrorCode, MemStore};
+use sqlite::{Connection, Error, ErrorCode, MemStore};
 use std::alloc::Global;
 
 /// What came of a row.
@@ -67,7 +68,7 @@ fn with_row(alloc: Global, row: &str) -> Result<Connection<MemStore>, Error> {
 }
 
 /// Changes rows. Gives whether the tables take what they become.
-fn is_taken<S: Alter>(conn: &mut Connection<S>, change: &str) -> Result<bool, Error> {
+fn is_taken<S: Session>(conn: &mut S, change: &str) -> Result<bool, Error> {
     match conn.execute(change, &[]) {
         Ok(_) => Ok(true),
         Err(Error::SqliteFailure(ErrorCode::ConstraintViolation(_))) => Ok(false),

@@ -1,7 +1,6 @@
 //! A script, played over a register in memory beside tables in SQL, or over the tables alone; and what a file holds.
 
 ghost use Rattle.std.specs.Prelude.{false};
-ghost use Rattle.sqlite.specs.Held.{state};
 ghost use Rattle.desk_engine.specs.Ready.{IsReady};
 ghost use Rattle.desk_file.specs.Both.{shown as shown_of_both};
 ghost use Rattle.desk_file.specs.Opened.{view_of_both};
@@ -14,8 +13,8 @@ use desk_register::{MemoryRegister, Register, ToldRegister};
 use desk_rules::MOST_ENTRIES;
 use desk_streams::Source;
 use memory_register::ListRegister;
-use sql_register::SqlRegister;
-use sqlite::{Alter, Connection, MemStore, Unknown};
+use sql_register::{Session, SqlRegister};
+use sqlite::{Connection, MemStore, Unknown};
 use std::io;
 
 /// What a script is played over.
@@ -63,11 +62,11 @@ fn play<D: Register + Drop, R: Source>(
 }
 
 /// Plays the script of standard input over tables alone.
-fn play_over_tables<S: Alter + Drop>(
+fn play_over_tables<S: Session + Drop>(
     rt: &HostRuntime,
     tables: SqlRegister<S>,
 ) -> Result<(), Failure>
-    requires { IsReady false (shown (state S.Store tables.connection) tables.stage tables.room) }
+    requires { IsReady false (shown (S.state tables.connection) tables.stage tables.room) }
 {
     play(rt, tables, &mut rt.stdin())?;
     Ok(())
@@ -149,12 +148,12 @@ fn do_over_both<M: MemoryRegister + Drop, T: ToldRegister + Drop>(
 }
 
 /// The same, of which the connection is given back.
-pub fn do_over_tables<S: Alter + Drop>(
+pub fn do_over_tables<S: Session + Drop>(
     rt: &HostRuntime,
     both: MirroredRegister<ListRegister, SqlRegister<S>>,
     deed: Deed<'_>,
-) -> Result<Connection<S>, Failure>
-    requires { IsReady false (view_of_both S.Store both) }
+) -> Result<S, Failure>
+    requires { IsReady false (view_of_both S.state both) }
 {
     Ok(do_over_both(rt, both, deed)?.into_connection())
 }

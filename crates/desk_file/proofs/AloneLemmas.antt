@@ -1,9 +1,7 @@
 -- The tables of what was opened, without the register in memory.
 use Rattle.std.proofs.Common.{◌≡◌, ℕ, sym, subst, Result, Ok, Err, IfOk, IfErr}
 use Rattle.sqlite.specs.Effect.{Database}
-use Rattle.sqlite.specs.Held.{state}
-use Rattle.sqlite.specs.State.{HasCleanDisk}
-use Rattle.sqlite_trees.specs.declared.store.Store.{Ghosts}
+use Rattle.sqlite.specs.State.{State, HasCleanDisk}
 use Rattle.sqlite_wal.specs.Recovery.{Image}
 use Rattle.memory_register.specs.ListsView.{view_of_lists}
 use Rattle.memory_register.specs.declared.list_register.ListRegister.{ListRegister}
@@ -15,17 +13,17 @@ use Rattle.desk_file.specs.Alone.{AreFoundIn, AreFoundOf, AreOpened, IsAlone}
 use Rattle.desk_file.specs.Opened.{Finds, FindsIn, IsOpened, IsReadyFor, KeepAudited}
 use Rattle.desk_file.proofs.ReadyLemmas.{ready}
 
-module _ {S : Type 0} (store : Ghosts S) (limit : ℕ) (both : Both ListRegister (Kept S)) (opened : IsOpened store limit both) where
-  said : HasCleanDisk (state store both.tables.connection) → (view_of_lists both.memory).content ≡ content_in (state store both.tables.connection).now
+module _ {S : Type 0} (state : S → State) (limit : ℕ) (both : Both ListRegister (Kept S)) (opened : IsOpened state limit both) where
+  said : HasCleanDisk (state both.tables.connection) → (view_of_lists both.memory).content ≡ content_in (state both.tables.connection).now
   said clean = sym (opened.keep clean).audited.becomes.content_is
 
-  its_ready : IsReadyFor limit (shown (state store both.tables.connection) both.tables.stage both.tables.room)
-  its_ready = ready limit (shown (state store both.tables.connection) both.tables.stage both.tables.room) opened.tables.stage (λ clean. (opened.keep clean).is_open) (λ clean. (opened.keep clean).is_open)
+  its_ready : IsReadyFor limit (shown (state both.tables.connection) both.tables.stage both.tables.room)
+  its_ready = ready limit (shown (state both.tables.connection) both.tables.stage both.tables.room) opened.tables.stage (λ clean. (opened.keep clean).is_open) (λ clean. (opened.keep clean).is_open)
       opened.tables.room
       (λ clean. subst (HoldsFormed limit) (said clean) (let a = (opened.keep clean).audited in record { held = a.held; formed = a.formed }))
 
-  its_keep : HasCleanDisk (state store both.tables.connection) → KeepAudited (state store both.tables.connection) limit (content_in (state store both.tables.connection).now)
-  its_keep clean = subst (KeepAudited (state store both.tables.connection) limit) (said clean) (opened.keep clean)
+  its_keep : HasCleanDisk (state both.tables.connection) → KeepAudited (state both.tables.connection) limit (content_in (state both.tables.connection).now)
+  its_keep clean = subst (KeepAudited (state both.tables.connection) limit) (said clean) (opened.keep clean)
 
 -- ---- of an opening that may have failed
 
@@ -43,18 +41,18 @@ pub alone_fault : {S E : Type 0} (P : E → Type 0) (opened : Result (Both ListR
 alone_fault {S} {E} P (Ok both) told is given = subst (λ (r : Result (Kept S) E). IfErr r P) (sym is) tt
 alone_fault {S} {E} P (Err fault) told is given = subst (λ (r : Result (Kept S) E). IfErr r P) (sym is) given
 
-module _ {S E : Type 0} (store : Ghosts S) (limit : ℕ) (opened : Result (Both ListRegister (Kept S)) E) (told : Result (Kept S) E) (is : IsAlone opened told) (ok : IfOk opened (IsOpened store limit)) where
-  pub alone_opened : IfOk told (AreOpened store limit)
-  alone_opened = alone_ok (IsOpened store limit) (AreOpened store limit) (λ both it. record { ready = its_ready store limit both it; keep = its_keep store limit both it }) opened told is ok
+module _ {S E : Type 0} (state : S → State) (limit : ℕ) (opened : Result (Both ListRegister (Kept S)) E) (told : Result (Kept S) E) (is : IsAlone opened told) (ok : IfOk opened (IsOpened state limit)) where
+  pub alone_opened : IfOk told (AreOpened state limit)
+  alone_opened = alone_ok (IsOpened state limit) (AreOpened state limit) (λ both it. record { ready = its_ready state limit both it; keep = its_keep state limit both it }) opened told is ok
 
-  pub alone_finds : (db : Database) → IfOk opened (λ both. HasCleanDisk (state store both.tables.connection) → Finds db (state store both.tables.connection).committed (view_of_lists both.memory).content)
-      → IfOk told (AreFoundOf store db)
-  alone_finds db finds = alone_both (IsOpened store limit) (λ both. HasCleanDisk (state store both.tables.connection) → Finds db (state store both.tables.connection).committed (view_of_lists both.memory).content)
-      (AreFoundOf store db)
-      (λ both it found. record { finds = λ clean. subst (Finds db (state store both.tables.connection).committed) (said store limit both it clean) (found clean) }) opened told is ok finds
+  pub alone_finds : (db : Database) → IfOk opened (λ both. HasCleanDisk (state both.tables.connection) → Finds db (state both.tables.connection).committed (view_of_lists both.memory).content)
+      → IfOk told (AreFoundOf state db)
+  alone_finds db finds = alone_both (IsOpened state limit) (λ both. HasCleanDisk (state both.tables.connection) → Finds db (state both.tables.connection).committed (view_of_lists both.memory).content)
+      (AreFoundOf state db)
+      (λ both it found. record { finds = λ clean. subst (Finds db (state both.tables.connection).committed) (said state limit both it clean) (found clean) }) opened told is ok finds
 
-  pub alone_found : (image : Image) → IfOk opened (λ both. HasCleanDisk (state store both.tables.connection) → FindsIn image (state store both.tables.connection).committed (view_of_lists both.memory).content)
-      → IfOk told (AreFoundIn store image)
-  alone_found image finds = alone_both (IsOpened store limit) (λ both. HasCleanDisk (state store both.tables.connection) → FindsIn image (state store both.tables.connection).committed (view_of_lists both.memory).content)
-      (AreFoundIn store image)
-      (λ both it found. record { finds = λ clean. subst (FindsIn image (state store both.tables.connection).committed) (said store limit both it clean) (found clean) }) opened told is ok finds
+  pub alone_found : (image : Image) → IfOk opened (λ both. HasCleanDisk (state both.tables.connection) → FindsIn image (state both.tables.connection).committed (view_of_lists both.memory).content)
+      → IfOk told (AreFoundIn state image)
+  alone_found image finds = alone_both (IsOpened state limit) (λ both. HasCleanDisk (state both.tables.connection) → FindsIn image (state both.tables.connection).committed (view_of_lists both.memory).content)
+      (AreFoundIn state image)
+      (λ both it found. record { finds = λ clean. subst (FindsIn image (state both.tables.connection).committed) (said state limit both it clean) (found clean) }) opened told is ok finds

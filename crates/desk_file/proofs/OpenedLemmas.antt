@@ -1,9 +1,7 @@
 -- A register that is two, of parts of which all is known.
 use Rattle.std.proofs.Common.{◌≡◌, ℕ, sym, subst, IsTrue}
 use Rattle.sqlite.specs.Effect.{Database}
-use Rattle.sqlite.specs.Held.{state}
-use Rattle.sqlite.specs.State.{HasCleanDisk}
-use Rattle.sqlite_trees.specs.declared.store.Store.{Ghosts}
+use Rattle.sqlite.specs.State.{State, HasCleanDisk}
 use Rattle.memory_register.specs.ListsView.{view_of_lists}
 use Rattle.memory_register.specs.declared.list_register.ListRegister.{ListRegister}
 use Rattle.desk_file.specs.Both.{Both}
@@ -35,18 +33,18 @@ nothing_audited db limit content empty becomes =
 
 -- ---- both
 
-module _ {S : Type 0} (store : Ghosts S) (limit : ℕ) (both : Both ListRegister (Kept S)) (memory : ListRegister) (tables : Kept S) (is_memory : both.memory ≡ memory) (is_tables : both.tables ≡ tables) where
+module _ {S : Type 0} (state : S → State) (limit : ℕ) (both : Both ListRegister (Kept S)) (memory : ListRegister) (tables : Kept S) (is_memory : both.memory ≡ memory) (is_tables : both.tables ≡ tables) where
   pub opened_as : both.stage ≡ Idle → (view_of_lists memory).room ≡ limit → HoldsFormed limit (view_of_lists memory).content → AreReadyTables limit tables
-      → (HasCleanDisk (state store tables.connection) → KeepAudited (state store tables.connection) limit (view_of_lists memory).content) → IsOpened store limit both
+      → (HasCleanDisk (state tables.connection) → KeepAudited (state tables.connection) limit (view_of_lists memory).content) → IsOpened state limit both
   opened_as stage room holds ready keep = record {
-    ready = both_ready store limit both stage (subst (λ (t : Kept S). HasCleanDisk (state store t.connection) → IsTrue (state store t.connection).is_open) (sym is_tables) (λ clean. (keep clean).is_open)) (subst (λ (m : ListRegister). (view_of_lists m).room ≡ limit) (sym is_memory) room)
+    ready = both_ready state limit both stage (subst (λ (t : Kept S). HasCleanDisk (state t.connection) → IsTrue (state t.connection).is_open) (sym is_tables) (λ clean. (keep clean).is_open)) (subst (λ (m : ListRegister). (view_of_lists m).room ≡ limit) (sym is_memory) room)
         (subst (λ (m : ListRegister). HoldsFormed limit (view_of_lists m).content) (sym is_memory) holds);
     tables = subst (AreReadyTables limit) (sym is_tables) ready;
-    keep = subst (λ (t : Kept S). HasCleanDisk (state store t.connection) → KeepAudited (state store t.connection) limit (view_of_lists both.memory).content) (sym is_tables)
-        (λ clean. subst (λ (m : ListRegister). KeepAudited (state store tables.connection) limit (view_of_lists m).content) (sym is_memory) (keep clean));
+    keep = subst (λ (t : Kept S). HasCleanDisk (state t.connection) → KeepAudited (state t.connection) limit (view_of_lists both.memory).content) (sym is_tables)
+        (λ clean. subst (λ (m : ListRegister). KeepAudited (state tables.connection) limit (view_of_lists m).content) (sym is_memory) (keep clean));
   }
 
-  pub found_as : (db : Database) → (HasCleanDisk (state store tables.connection) → Finds db (state store tables.connection).committed (view_of_lists memory).content)
-      → HasCleanDisk (state store both.tables.connection) → Finds db (state store both.tables.connection).committed (view_of_lists both.memory).content
-  found_as db finds = subst (λ (t : Kept S). HasCleanDisk (state store t.connection) → Finds db (state store t.connection).committed (view_of_lists both.memory).content) (sym is_tables)
-      (λ clean. subst (λ (m : ListRegister). Finds db (state store tables.connection).committed (view_of_lists m).content) (sym is_memory) (finds clean))
+  pub found_as : (db : Database) → (HasCleanDisk (state tables.connection) → Finds db (state tables.connection).committed (view_of_lists memory).content)
+      → HasCleanDisk (state both.tables.connection) → Finds db (state both.tables.connection).committed (view_of_lists both.memory).content
+  found_as db finds = subst (λ (t : Kept S). HasCleanDisk (state t.connection) → Finds db (state t.connection).committed (view_of_lists both.memory).content) (sym is_tables)
+      (λ clean. subst (λ (m : ListRegister). Finds db (state tables.connection).committed (view_of_lists m).content) (sym is_memory) (finds clean))

@@ -1,8 +1,6 @@
 -- A register that a desk can be made over.
 use Rattle.std.proofs.Common.{◌≡◌, ℕ, sym, subst, IsTrue}
-use Rattle.sqlite.specs.Held.{state}
-use Rattle.sqlite.specs.State.{HasCleanDisk}
-use Rattle.sqlite_trees.specs.declared.store.Store.{Ghosts}
+use Rattle.sqlite.specs.State.{State, HasCleanDisk}
 use Rattle.desk_engine.specs.Applied.{Keeps}
 use Rattle.memory_register.specs.ListsView.{view_of_lists}
 use Rattle.memory_register.specs.declared.list_register.ListRegister.{ListRegister}
@@ -34,6 +32,6 @@ ready limit view stage sure device room holds = record {
 }
 
 -- memory has no device, and the tables' has not shut their store
-pub both_ready : {S : Type 0} (store : Ghosts S) (limit : ℕ) (both : Both ListRegister (Kept S)) → both.stage ≡ Idle → (HasCleanDisk (state store both.tables.connection) → IsTrue (state store both.tables.connection).is_open)
-    → (view_of_lists both.memory).room ≡ limit → HoldsFormed limit (view_of_lists both.memory).content → IsReadyFor limit (view_of_both store both)
-both_ready store limit both stage is_open room holds = ready limit (view_of_both store both) stage (λ honest. tt) (λ honest. (is_open honest.0, is_open honest.1)) room (λ honest. holds)
+pub both_ready : {S : Type 0} (state : S → State) (limit : ℕ) (both : Both ListRegister (Kept S)) → both.stage ≡ Idle → (HasCleanDisk (state both.tables.connection) → IsTrue (state both.tables.connection).is_open)
+    → (view_of_lists both.memory).room ≡ limit → HoldsFormed limit (view_of_lists both.memory).content → IsReadyFor limit (view_of_both state both)
+both_ready state limit both stage is_open room holds = ready limit (view_of_both state both) stage (λ honest. tt) (λ honest. (is_open honest.0, is_open honest.1)) room (λ honest. holds)

@@ -9,9 +9,7 @@ use Rattle.sqlite.specs.Term.{col, lit}
 use Rattle.sqlite.specs.declared.types.Value.TheVariants.{Int}
 use Rattle.sqlite.specs.Listing.{understood}
 use Rattle.sqlite.specs.Effect.{Database}
-use Rattle.sqlite.specs.Held.{Held, state}
 use Rattle.sqlite.specs.Order.{Row}
-use Rattle.sqlite_trees.specs.declared.store.Store.{Ghosts}
 use Rattle.sqlite.specs.Schema.{Schema}
 use Rattle.sqlite.specs.Tree.{Trees}
 use Rattle.sqlite.specs.State.{State, Executes, FailsToQuery, HasCleanDisk, IsMisplaced, Shown, ShowsRows, Survives}
@@ -122,15 +120,15 @@ spares_then a b c p q = record {
 
 -- ---- the version that is told
 
-pub tells_version : {S : Type 0} (store : Ghosts S) (db : Database) (asked answered : Held S) → (state store asked).now ≡ db
-    → (shown : Result (Vec Row Global) Error) → IfOk shown (λ rows. Shown versions_text [] (state store asked) (state store answered) rows.items)
-    → (told : Result (Option ℤ) Error) → IfOk told (λ said. IfSome said (λ number. IsOkAnd shown (λ rows. SaysNumber rows.items number))) → IfOk told (λ said. IfSome said (TellsVersion store db))
-tells_version store db asked answered over shown shows (Err e) tells = tt
-tells_version store db asked answered over shown shows (Ok None) tells = tt
-tells_version store db asked answered over (Ok rows) shows (Ok (Some number)) tells = record { asked = asked; over = over; answered = answered; rows = rows.items; shown = shows; says = tells }
-tells_version store db asked answered over (Err e) shows (Ok (Some number)) tells = absurd tells
+pub tells_version : {S : Type 0} (state : S → State) (db : Database) (asked answered : S) → (state asked).now ≡ db
+    → (shown : Result (Vec Row Global) Error) → IfOk shown (λ rows. Shown versions_text [] (state asked) (state answered) rows.items)
+    → (told : Result (Option ℤ) Error) → IfOk told (λ said. IfSome said (λ number. IsOkAnd shown (λ rows. SaysNumber rows.items number))) → IfOk told (λ said. IfSome said (TellsVersion state db))
+tells_version state db asked answered over shown shows (Err e) tells = tt
+tells_version state db asked answered over shown shows (Ok None) tells = tt
+tells_version state db asked answered over (Ok rows) shows (Ok (Some number)) tells = record { asked = asked; over = over; answered = answered; rows = rows.items; shown = shows; says = tells }
+tells_version state db asked answered over (Err e) shows (Ok (Some number)) tells = absurd tells
 
 -- it is another than this
-pub says_other : {S : Type 0} (store : Ghosts S) (db : Database) (said : Option ℤ) → IfSome said (TellsVersion store db) → IsSomeAnd said (λ number. number ≢ pos 3) → SaysOther store db
-says_other store db None told other = absurd other
-says_other store db (Some number) told other = record { number = number; told = told; other = other }
+pub says_other : {S : Type 0} (state : S → State) (db : Database) (said : Option ℤ) → IfSome said (TellsVersion state db) → IsSomeAnd said (λ number. number ≢ pos 3) → SaysOther state db
+says_other state db None told other = absurd other
+says_other state db (Some number) told other = record { number = number; told = told; other = other }

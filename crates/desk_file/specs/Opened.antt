@@ -2,9 +2,7 @@
 use Rattle.std.specs.Prelude.{◌≡◌, ◌⊎◌, ℕ, false, IsTrue}
 use Rattle.sqlite.specs.Effect.{Database, IsDatabase}
 use Rattle.sqlite.specs.Files.{AreFoundIn, HoldsDatabase}
-use Rattle.sqlite.specs.Held.{state}
 use Rattle.sqlite.specs.State.{State, HasCleanDisk, Opens}
-use Rattle.sqlite_trees.specs.declared.store.Store.{Ghosts}
 use Rattle.sqlite_trees.specs.Tree.{Trees}
 use Rattle.sqlite_trees.specs.View.{View as Store}
 use Rattle.sqlite_wal.specs.Recovery.{Image}
@@ -55,8 +53,8 @@ pub record KeepAudited (s : State) (limit : ℕ) (content : Content) : Type 0 wh
   pub audited : IsAudited s.now limit content
 
 -- the register that is two, as contracts of `Register` see it
-abbrev pub view_of_both : {S : Type 0} → Ghosts S → Both ListRegister (Kept S) → View
-view_of_both store both = shown (view_of_lists both.memory) both.stage (view_of store both.tables)
+abbrev pub view_of_both : {S : Type 0} → (S → State) → Both ListRegister (Kept S) → View
+view_of_both state both = shown (view_of_lists both.memory) both.stage (view_of state both.tables)
 
 -- the tables have no `begin` open, and have room for so many entries
 pub record AreReadyTables {S : Type 0} (limit : ℕ) (tables : Kept S) : Type 0 where
@@ -64,10 +62,10 @@ pub record AreReadyTables {S : Type 0} (limit : ℕ) (tables : Kept S) : Type 0 
   pub room : tables.room ≡ limit
 
 -- A register that is two was opened: it is ready, and the tables say what it holds.
-pub record IsOpened {S : Type 0} (store : Ghosts S) (limit : ℕ) (both : Both ListRegister (Kept S)) : Type 0 where
-  pub ready : IsReadyFor limit (view_of_both store both)
+pub record IsOpened {S : Type 0} (state : S → State) (limit : ℕ) (both : Both ListRegister (Kept S)) : Type 0 where
+  pub ready : IsReadyFor limit (view_of_both state both)
   pub tables : AreReadyTables limit both.tables
-  pub keep : HasCleanDisk (state store both.tables.connection) → KeepAudited (state store both.tables.connection) limit (view_of_lists both.memory).content
+  pub keep : HasCleanDisk (state both.tables.connection) → KeepAudited (state both.tables.connection) limit (view_of_lists both.memory).content
 
 -- what is handed back has the last commit as it was, and nothing else
 pub record IsHandedBack (store : Store) (s : State) : Type 0 where

@@ -1,14 +1,12 @@
 -- A database that tells another version than this.
 use Rattle.std.specs.Prelude.{◌≡◌, ◌≢◌, ℕ, ℤ, pos, List, [], ◌∷◌, codes}
 use Rattle.sqlite.specs.Effect.{Database, IsDatabase}
-use Rattle.sqlite.specs.Files.{over_files, AreFoundIn, HoldsDatabase}
-use Rattle.sqlite.specs.Held.{Held, state}
-use Rattle.sqlite.specs.State.{Shown}
+use Rattle.sqlite.specs.Files.{file_state, AreFoundIn, HoldsDatabase}
+use Rattle.sqlite.specs.State.{State, Shown}
 use Rattle.sqlite.specs.declared.file.Leftover.{Leftover}
 use Rattle.sqlite.specs.declared.types.Value.TheVariants.{Int}
 use Rattle.sqlite_disk.specs.declared.Disk as disk
 use Rattle.sqlite_trees.specs.Tree.{Trees}
-use Rattle.sqlite_trees.specs.declared.store.Store.{Ghosts}
 use Rattle.sqlite_value.specs.Order.{Row, column}
 use Rattle.sqlite_wal.specs.Recovery.{Image}
 
@@ -23,18 +21,18 @@ pub record SaysNumber (rows : List Row) (number : ℤ) : Type 0 where
   pub says : column row 0 ≡ Int number
 
 -- a connection to this database that is asked for its versions shows a number
-pub record TellsVersion {S : Type 0} (store : Ghosts S) (db : Database) (number : ℤ) : Type 0 where
-  pub asked : Held S
-  pub over : (state store asked).now ≡ db
-  pub answered : Held S
+pub record TellsVersion {S : Type 0} (state : S → State) (db : Database) (number : ℤ) : Type 0 where
+  pub asked : S
+  pub over : (state asked).now ≡ db
+  pub answered : S
   pub rows : List Row
-  pub shown : Shown versions_text [] (state store asked) (state store answered) rows
+  pub shown : Shown versions_text [] (state asked) (state answered) rows
   pub says : SaysNumber rows number
 
 -- it tells another version than this
-pub record SaysOther {S : Type 0} (store : Ghosts S) (db : Database) : Type 0 where
+pub record SaysOther {S : Type 0} (state : S → State) (db : Database) : Type 0 where
   pub number : ℤ
-  pub told : TellsVersion store db number
+  pub told : TellsVersion state db number
   pub other : number ≢ pos 3
 
 -- the same of the database that was found in files, of which this is left
@@ -43,4 +41,4 @@ pub record SaysOtherIn {D : Type 0} {g : disk.Ghosts D} (image : Image) (left : 
   pub is : IsDatabase db
   pub reads : AreFoundIn image db.trees
   pub only : (trees : Trees) → HoldsDatabase image trees → db.trees ≡ trees
-  pub says : SaysOther (over_files {g = g}) db
+  pub says : SaysOther (file_state {g = g}) db

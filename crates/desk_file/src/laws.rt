@@ -2,7 +2,6 @@
 ghost use Rattle.std.specs.Prelude.{ℕ, ◌≤◌, length};
 ghost use Rattle.sqlite.specs.Closing.{HoldsAlone};
 ghost use Rattle.sqlite.specs.Effect.{Database};
-ghost use Rattle.sqlite.specs.Held.{state};
 ghost use Rattle.sqlite.specs.State.{IsLive};
 ghost use Rattle.sqlite_wal.specs.Recovery.{Image};
 ghost use Rattle.desk_engine.specs.Applied.{Keeps as KeepsBooks};
@@ -17,11 +16,11 @@ ghost use Rattle.desk_file.specs.Opened.{FindsIn};
 ghost use Rattle.desk_file.specs.Parts.{HasParts};
 ghost use Rattle.desk_file.specs.Said.{SaysBooks};
 
-use sqlite::{Alter, Connection};
+use sql_tables::session::Session;
 
 /// A connection that is open shows a database, and its last commit is one.
-pub fn is_live<S: Alter>(conn: &Connection<S>)
-    ensures { IsLive (state S.Store conn.now) }
+pub fn is_live<S: Session>(conn: &S)
+    ensures { IsLive (S.state conn.now) }
 {
     conn.schema();
 }

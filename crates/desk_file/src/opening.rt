@@ -1,6 +1,6 @@
 //! The way in.
 ghost use Rattle.std.specs.Prelude.{◌≡◌, ◌≤◌, ◌<◌, IfErr, IfOk, IfSome, IsSomeAnd, IsTrue};
-ghost use Rattle.sqlite.specs.Files.{file_state, over_files, IsCleanLeft};
+ghost use Rattle.sqlite.specs.Files.{file_state, IsCleanLeft};
 ghost use Rattle.sqlite.specs.Held.{state};
 ghost use Rattle.sqlite.specs.State.{HasCleanDisk};
 ghost use Rattle.sqlite_trees.specs.View.{IsClean};
@@ -36,13 +36,13 @@ pub fn adopt<S: Alter + Drop>(
     alloc: Global,
     conn: Connection<S>,
     limit: u64,
-) -> Result<MirroredRegister<ListRegister, SqlRegister<S>>, (OpenFault, S)>
+) -> Result<MirroredRegister<ListRegister, SqlRegister<Connection<S>>>, (OpenFault, S)>
     requires { limit ≤ MOST_ENTRIES }
-    ensures opened { IfOk result (IsOpened S.Store limit) }
+    ensures opened { IfOk result (IsOpened (state S.Store) limit) }
     ensures which { IfOk result (λ both. HasCleanDisk (state S.Store both.tables.connection) → Finds (state S.Store conn).committed (state S.Store both.tables.connection).committed (view_of_lists both.memory).content) }
     ensures back { IfErr result (λ e. IsClean (S.Store.view e.1) → IsTrue (S.Store.view e.1).is_open → IsHandedBack (S.Store.view e.1) (state S.Store conn)) }
     ensures refused { IfErr result (λ e. IsClean (S.Store.view e.1) → IsRefusal e.0 → ¬ IsDesks limit (state S.Store conn).committed) }
-    ensures other { IfErr result (λ e. IsClean (S.Store.view e.1) → e.0 ≡ OpenFault.OtherVersion → SaysOther S.Store (state S.Store conn).committed) }
+    ensures other { IfErr result (λ e. IsClean (S.Store.view e.1) → e.0 ≡ OpenFault.OtherVersion → SaysOther (state S.Store) (state S.Store conn).committed) }
     ensures blame { IfErr result (λ e. IsClean (S.Store.view e.1) → IsTrue (state S.Store conn).is_open → e.0 ≡ Storage → 0 < S.Store.faults e.1) }
 {
     let conn = match reopen(alloc, conn) {
@@ -68,11 +68,11 @@ pub fn open_file<S: Start, P: Progress>(
     limit: u64,
     progress: &mut P,
 ) -> Result<
-    MirroredRegister<ListRegister, SqlRegister<FileStore<FileFrom<S>>>>,
+    MirroredRegister<ListRegister, SqlRegister<Connection<FileStore<FileFrom<S>>>>>,
     (OpenFault, Option<Leftover<FileFrom<S>>>),
 >
     requires { limit ≤ MOST_ENTRIES }
-    ensures opened { IfOk result (IsOpened over_files limit) }
+    ensures opened { IfOk result (IsOpened file_state limit) }
     ensures which { IfOk result (λ both. HasCleanDisk (file_state both.tables.connection) → FindsIn (image_at S.Start) (file_state both.tables.connection).committed (view_of_lists both.memory).content) }
     ensures back { IfErr result (λ e. IfSome e.1 (λ left. IsCleanLeft left → LeavesIn (image_at S.Start) left)) }
     ensures refused { IfErr result (λ e. IsRefusal e.0 → IsSomeAnd e.1 (λ left. IsCleanLeft left → ¬ IsDesksIn limit (image_at S.Start))) }

@@ -1,6 +1,6 @@
 //! The same way in, for the tables alone.
 ghost use Rattle.std.specs.Prelude.{◌≡◌, ◌≤◌, ◌<◌, IfErr, IfOk, IfSome, IsSomeAnd, IsTrue};
-ghost use Rattle.sqlite.specs.Files.{over_files, IsCleanLeft};
+ghost use Rattle.sqlite.specs.Files.{file_state, IsCleanLeft};
 ghost use Rattle.sqlite.specs.Held.{state};
 ghost use Rattle.sqlite_trees.specs.View.{IsClean};
 ghost use Rattle.sqlite_wal.specs.Files.{image_at};
@@ -19,12 +19,13 @@ use crate::mirror::mirrored_register::MirroredRegister;
 use crate::opening::{adopt, open_file};
 use memory_register::ListRegister;
 use sql_register::SqlRegister;
+use sql_tables::session::Session;
 use sqlite::{Alter, Connection, FileFrom, FileStore, Leftover, Start};
 use std::alloc::Global;
 use std::rt::HostRuntime;
 
 /// The tables of what was opened, without the register in memory beside them; a fault stays.
-fn alone<S: Alter + Drop, E>(
+fn alone<S: Session + Drop, E>(
     opened: Result<MirroredRegister<ListRegister, SqlRegister<S>>, E>,
 ) -> Result<SqlRegister<S>, E>
     ensures { IsAlone opened result }
@@ -40,13 +41,13 @@ pub fn adopt_tables<S: Alter + Drop>(
     alloc: Global,
     conn: Connection<S>,
     limit: u64,
-) -> Result<SqlRegister<S>, (OpenFault, S)>
+) -> Result<SqlRegister<Connection<S>>, (OpenFault, S)>
     requires { limit ≤ MOST_ENTRIES }
-    ensures opened { IfOk result (AreOpened S.Store limit) }
-    ensures which { IfOk result (AreFoundOf S.Store (state S.Store conn).committed) }
+    ensures opened { IfOk result (AreOpened (state S.Store) limit) }
+    ensures which { IfOk result (AreFoundOf (state S.Store) (state S.Store conn).committed) }
     ensures back { IfErr result (λ e. IsClean (S.Store.view e.1) → IsTrue (S.Store.view e.1).is_open → IsHandedBack (S.Store.view e.1) (state S.Store conn)) }
     ensures refused { IfErr result (λ e. IsClean (S.Store.view e.1) → IsRefusal e.0 → ¬ IsDesks limit (state S.Store conn).committed) }
-    ensures other { IfErr result (λ e. IsClean (S.Store.view e.1) → e.0 ≡ OpenFault.OtherVersion → SaysOther S.Store (state S.Store conn).committed) }
+    ensures other { IfErr result (λ e. IsClean (S.Store.view e.1) → e.0 ≡ OpenFault.OtherVersion → SaysOther (state S.Store) (state S.Store conn).committed) }
     ensures blame { IfErr result (λ e. IsClean (S.Store.view e.1) → IsTrue (state S.Store conn).is_open → e.0 ≡ Storage → 0 < S.Store.faults e.1) }
 {
     alone(adopt(alloc, conn, limit))
@@ -58,10 +59,13 @@ pub fn open_tables<S: Start>(
     path: &str,
     start: S,
     limit: u64,
-) -> Result<SqlRegister<FileStore<FileFrom<S>>>, (OpenFault, Option<Leftover<FileFrom<S>>>)>
+) -> Result<
+    SqlRegister<Connection<FileStore<FileFrom<S>>>>,
+    (OpenFault, Option<Leftover<FileFrom<S>>>),
+>
     requires { limit ≤ MOST_ENTRIES }
-    ensures opened { IfOk result (AreOpened over_files limit) }
-    ensures which { IfOk result (AreFoundIn over_files (image_at S.Start)) }
+    ensures opened { IfOk result (AreOpened file_state limit) }
+    ensures which { IfOk result (AreFoundIn file_state (image_at S.Start)) }
     ensures back { IfErr result (λ e. IfSome e.1 (λ left. IsCleanLeft left → LeavesIn (image_at S.Start) left)) }
     ensures refused { IfErr result (λ e. IsRefusal e.0 → IsSomeAnd e.1 (λ left. IsCleanLeft left → ¬ IsDesksIn limit (image_at S.Start))) }
     ensures other { IfErr result (λ e. e.0 ≡ OpenFault.OtherVersion → IsSomeAnd e.1 (λ left. IsCleanLeft left → SaysOtherIn (image_at S.Start) left)) }

@@ -1,6 +1,5 @@
 //! A database that was opened is made the desk's, or found to be.
 ghost use Rattle.std.specs.Prelude.{◌≡◌, ◌≢◌, ◌≤◌, pos, false, IfErr, IfOk, IsSomeAnd, IsTrue, None};
-ghost use Rattle.sqlite.specs.Held.{state};
 ghost use Rattle.sqlite.specs.State.{HasCleanDisk};
 ghost use Rattle.memory_register.specs.ListsView.{view_of_lists};
 ghost use Rattle.desk_rules.specs.declared.limits.TheConstants.{MOST_ENTRIES};
@@ -23,8 +22,8 @@ use crate::mirror::mirrored_register::MirroredRegister;
 use crate::version::version_said;
 use memory_register::ListRegister;
 use sql_register::{SqlRegister, has_no_table};
+use sql_tables::session::Session;
 use sql_tables::version::VERSION;
-use sqlite::{Alter, Connection};
 use std::alloc::Global;
 
 /// Tells the version that a database says, if it says one.
@@ -52,10 +51,10 @@ fn refused_for(said: Option<i64>) -> OpenFault
 }
 
 /// Why a database that is not the desk's, in this version, is refused.
-fn refusal<S: Alter, P: Progress>(conn: &mut Connection<S>, progress: &mut P) -> OpenFault
-    ensures spares { Spares (state S.Store conn.old) (state S.Store conn.new) }
-    ensures blame { HasCleanDisk (state S.Store conn.new) → IsTrue (state S.Store conn.old).is_open → (state S.Store conn.old).in_transaction ≡ false → (state S.Store conn.old).step_limit ≡ None → IsBlamed (state S.Store conn.old) (state S.Store conn.new) result }
-    ensures other { HasCleanDisk (state S.Store conn.new) → result ≡ OpenFault.OtherVersion → SaysOther S.Store (tables S.Store conn.old) }
+fn refusal<S: Session, P: Progress>(conn: &mut S, progress: &mut P) -> OpenFault
+    ensures spares { Spares (S.state conn.old) (S.state conn.new) }
+    ensures blame { HasCleanDisk (S.state conn.new) → IsTrue (S.state conn.old).is_open → (S.state conn.old).in_transaction ≡ false → (S.state conn.old).step_limit ≡ None → IsBlamed (S.state conn.old) (S.state conn.new) result }
+    ensures other { HasCleanDisk (S.state conn.new) → result ≡ OpenFault.OtherVersion → SaysOther S.state (tables S.state conn.old) }
 {
     match version_said(conn) {
         Ok(said) => {
@@ -67,22 +66,22 @@ fn refusal<S: Alter, P: Progress>(conn: &mut Connection<S>, progress: &mut P) ->
 }
 
 /// Makes the tables in a database that has none, with a register in memory beside them.
-fn make<S: Alter + Drop>(
+fn make<S: Session + Drop>(
     alloc: Global,
-    conn: Connection<S>,
+    conn: S,
     limit: u64,
-) -> Result<MirroredRegister<ListRegister, SqlRegister<S>>, (OpenFault, Connection<S>)>
+) -> Result<MirroredRegister<ListRegister, SqlRegister<S>>, (OpenFault, S)>
     requires limit { limit ≤ MOST_ENTRIES }
-    requires unlimited { (state S.Store conn).step_limit ≡ None }
-    requires open { HasCleanDisk (state S.Store conn) → StandsOpen (state S.Store conn) }
-    requires empty { (tables S.Store conn).schema ≡ no_schema }
-    ensures opened { IfOk result (IsOpened S.Store limit) }
-    ensures which { IfOk result (λ both. HasCleanDisk (state S.Store both.tables.connection) → Finds (state S.Store conn).committed (state S.Store both.tables.connection).committed (view_of_lists both.memory).content) }
-    ensures later { IfOk result (λ both. IsLater (state S.Store conn) (state S.Store both.tables.connection)) }
-    ensures handed { IfErr result (λ e. IsLater (state S.Store conn) (state S.Store e.1)) }
-    ensures kept { IfErr result (λ e. HasCleanDisk (state S.Store e.1) → KeepsCommitted (state S.Store conn) (state S.Store e.1)) }
+    requires unlimited { (S.state conn).step_limit ≡ None }
+    requires open { HasCleanDisk (S.state conn) → StandsOpen (S.state conn) }
+    requires empty { (tables S.state conn).schema ≡ no_schema }
+    ensures opened { IfOk result (IsOpened S.state limit) }
+    ensures which { IfOk result (λ both. HasCleanDisk (S.state both.tables.connection) → Finds (S.state conn).committed (S.state both.tables.connection).committed (view_of_lists both.memory).content) }
+    ensures later { IfOk result (λ both. IsLater (S.state conn) (S.state both.tables.connection)) }
+    ensures handed { IfErr result (λ e. IsLater (S.state conn) (S.state e.1)) }
+    ensures kept { IfErr result (λ e. HasCleanDisk (S.state e.1) → KeepsCommitted (S.state conn) (S.state e.1)) }
     ensures refused { IfErr result (λ e. ¬ IsRefusal e.0) }
-    ensures blame { IfErr result (λ e. HasCleanDisk (state S.Store e.1) → IsBlamed (state S.Store conn) (state S.Store e.1) e.0) }
+    ensures blame { IfErr result (λ e. HasCleanDisk (S.state e.1) → IsBlamed (S.state conn) (S.state e.1) e.0) }
 {
     match SqlRegister::new(conn, limit) {
         Ok(tables) => Ok(MirroredRegister::new(ListRegister::new(alloc, limit), tables)),
@@ -91,23 +90,23 @@ fn make<S: Alter + Drop>(
 }
 
 /// Fills a register in memory from a database that has tables, and sees whether these are the ones of what it holds then.
-fn find<S: Alter + Drop, P: Progress>(
+fn find<S: Session + Drop, P: Progress>(
     alloc: Global,
-    mut conn: Connection<S>,
+    mut conn: S,
     limit: u64,
     progress: &mut P,
-) -> Result<MirroredRegister<ListRegister, SqlRegister<S>>, (OpenFault, Connection<S>)>
+) -> Result<MirroredRegister<ListRegister, SqlRegister<S>>, (OpenFault, S)>
     requires limit { limit ≤ MOST_ENTRIES }
-    requires unlimited { (state S.Store conn).step_limit ≡ None }
-    requires open { HasCleanDisk (state S.Store conn) → StandsOpen (state S.Store conn) }
-    ensures opened { IfOk result (IsOpened S.Store limit) }
-    ensures which { IfOk result (λ both. HasCleanDisk (state S.Store both.tables.connection) → Finds (state S.Store conn).committed (state S.Store both.tables.connection).committed (view_of_lists both.memory).content) }
-    ensures later { IfOk result (λ both. IsLater (state S.Store conn) (state S.Store both.tables.connection)) }
-    ensures handed { IfErr result (λ e. IsLater (state S.Store conn) (state S.Store e.1)) }
-    ensures kept { IfErr result (λ e. HasCleanDisk (state S.Store e.1) → KeepsCommitted (state S.Store conn) (state S.Store e.1)) }
-    ensures refused { IfErr result (λ e. HasCleanDisk (state S.Store e.1) → IsRefusal e.0 → (content : Content) → ¬ IsAudited (tables S.Store conn) limit content) }
-    ensures other { IfErr result (λ e. HasCleanDisk (state S.Store e.1) → e.0 ≡ OpenFault.OtherVersion → SaysOther S.Store (tables S.Store conn)) }
-    ensures blame { IfErr result (λ e. HasCleanDisk (state S.Store e.1) → IsBlamed (state S.Store conn) (state S.Store e.1) e.0) }
+    requires unlimited { (S.state conn).step_limit ≡ None }
+    requires open { HasCleanDisk (S.state conn) → StandsOpen (S.state conn) }
+    ensures opened { IfOk result (IsOpened S.state limit) }
+    ensures which { IfOk result (λ both. HasCleanDisk (S.state both.tables.connection) → Finds (S.state conn).committed (S.state both.tables.connection).committed (view_of_lists both.memory).content) }
+    ensures later { IfOk result (λ both. IsLater (S.state conn) (S.state both.tables.connection)) }
+    ensures handed { IfErr result (λ e. IsLater (S.state conn) (S.state e.1)) }
+    ensures kept { IfErr result (λ e. HasCleanDisk (S.state e.1) → KeepsCommitted (S.state conn) (S.state e.1)) }
+    ensures refused { IfErr result (λ e. HasCleanDisk (S.state e.1) → IsRefusal e.0 → (content : Content) → ¬ IsAudited (tables S.state conn) limit content) }
+    ensures other { IfErr result (λ e. HasCleanDisk (S.state e.1) → e.0 ≡ OpenFault.OtherVersion → SaysOther S.state (tables S.state conn)) }
+    ensures blame { IfErr result (λ e. HasCleanDisk (S.state e.1) → IsBlamed (S.state conn) (S.state e.1) e.0) }
 {
     let mut memory = ListRegister::new(alloc, limit);
     match audit(alloc, &mut conn, &mut memory, progress) {
@@ -127,23 +126,23 @@ fn find<S: Alter + Drop, P: Progress>(
 }
 
 /// Takes a database over that was just opened, so that no limit is set on the steps of a query. One with no table gets the desk's.
-pub fn take_over<S: Alter + Drop, P: Progress>(
+pub fn take_over<S: Session + Drop, P: Progress>(
     alloc: Global,
-    conn: Connection<S>,
+    conn: S,
     limit: u64,
     progress: &mut P,
-) -> Result<MirroredRegister<ListRegister, SqlRegister<S>>, (OpenFault, Connection<S>)>
+) -> Result<MirroredRegister<ListRegister, SqlRegister<S>>, (OpenFault, S)>
     requires limit { limit ≤ MOST_ENTRIES }
-    requires unlimited { (state S.Store conn).step_limit ≡ None }
-    requires open { HasCleanDisk (state S.Store conn) → StandsOpen (state S.Store conn) }
-    ensures opened { IfOk result (IsOpened S.Store limit) }
-    ensures which { IfOk result (λ both. HasCleanDisk (state S.Store both.tables.connection) → Finds (state S.Store conn).committed (state S.Store both.tables.connection).committed (view_of_lists both.memory).content) }
-    ensures later { IfOk result (λ both. IsLater (state S.Store conn) (state S.Store both.tables.connection)) }
-    ensures handed { IfErr result (λ e. IsLater (state S.Store conn) (state S.Store e.1)) }
-    ensures kept { IfErr result (λ e. HasCleanDisk (state S.Store e.1) → KeepsCommitted (state S.Store conn) (state S.Store e.1)) }
-    ensures refused { IfErr result (λ e. HasCleanDisk (state S.Store e.1) → IsRefusal e.0 → ¬ IsDesks limit (tables S.Store conn)) }
-    ensures other { IfErr result (λ e. HasCleanDisk (state S.Store e.1) → e.0 ≡ OpenFault.OtherVersion → SaysOther S.Store (tables S.Store conn)) }
-    ensures blame { IfErr result (λ e. HasCleanDisk (state S.Store e.1) → IsBlamed (state S.Store conn) (state S.Store e.1) e.0) }
+    requires unlimited { (S.state conn).step_limit ≡ None }
+    requires open { HasCleanDisk (S.state conn) → StandsOpen (S.state conn) }
+    ensures opened { IfOk result (IsOpened S.state limit) }
+    ensures which { IfOk result (λ both. HasCleanDisk (S.state both.tables.connection) → Finds (S.state conn).committed (S.state both.tables.connection).committed (view_of_lists both.memory).content) }
+    ensures later { IfOk result (λ both. IsLater (S.state conn) (S.state both.tables.connection)) }
+    ensures handed { IfErr result (λ e. IsLater (S.state conn) (S.state e.1)) }
+    ensures kept { IfErr result (λ e. HasCleanDisk (S.state e.1) → KeepsCommitted (S.state conn) (S.state e.1)) }
+    ensures refused { IfErr result (λ e. HasCleanDisk (S.state e.1) → IsRefusal e.0 → ¬ IsDesks limit (tables S.state conn)) }
+    ensures other { IfErr result (λ e. HasCleanDisk (S.state e.1) → e.0 ≡ OpenFault.OtherVersion → SaysOther S.state (tables S.state conn)) }
+    ensures blame { IfErr result (λ e. HasCleanDisk (S.state e.1) → IsBlamed (S.state conn) (S.state e.1) e.0) }
 {
     if has_no_table(&conn) {
         make(alloc, conn, limit)

@@ -1,6 +1,5 @@
 //! Which version a database tells that is not the desk's.
 ghost use Rattle.std.specs.Prelude.{◌≡◌, [], false, Err, IfErr, IfOk, IfSome, IsOkAnd, IsTrue, OnOk};
-ghost use Rattle.sqlite.specs.Held.{state};
 ghost use Rattle.sqlite.specs.State.{HasCleanDisk, Shown};
 ghost use Rattle.sql_tables.specs.Calls.{FailsForCause, tables};
 ghost use Rattle.sql_tables.specs.Control.{Begins};
@@ -8,31 +7,32 @@ ghost use Rattle.sql_tables.specs.Ends.{SaysWhy};
 ghost use Rattle.desk_file.specs.OtherVersion.{versions_text, SaysNumber, TellsVersion};
 ghost use Rattle.desk_file.specs.Spared.{Spares};
 
+use sql_tables::session::Session;
 use sqlite::types::ValueRef;
-use sqlite::{Alter, Connection, Error, Row};
+use sqlite::{Error, Row};
 use sqlite_schema::names::same_name;
 
 /// Begins a transaction, whatever tables there are: what is read of tables that nobody knows is given up afterwards.
-fn begin<S: Alter>(conn: &mut Connection<S>) -> Result<usize, Error>
-    ensures inside { HasCleanDisk (state S.Store conn.new) → OnOk result (IsTrue (state S.Store conn.new).in_transaction) }
-    ensures spares { Spares (state S.Store conn.old) (state S.Store conn.new) }
-    ensures same { HasCleanDisk (state S.Store conn.new) → OnOk result (Begins (state S.Store conn.old) (state S.Store conn.new)) }
-    ensures blame { HasCleanDisk (state S.Store conn.new) → IsTrue (state S.Store conn.old).is_open → (state S.Store conn.old).in_transaction ≡ false → FailsForCause S.Store conn.old conn.new result }
+fn begin<S: Session>(conn: &mut S) -> Result<usize, Error>
+    ensures inside { HasCleanDisk (S.state conn.new) → OnOk result (IsTrue (S.state conn.new).in_transaction) }
+    ensures spares { Spares (S.state conn.old) (S.state conn.new) }
+    ensures same { HasCleanDisk (S.state conn.new) → OnOk result (Begins (S.state conn.old) (S.state conn.new)) }
+    ensures blame { HasCleanDisk (S.state conn.new) → IsTrue (S.state conn.old).is_open → (S.state conn.old).in_transaction ≡ false → FailsForCause S.state conn.old conn.new result }
 {
     conn.execute("BEGIN", &[])
 }
 
 /// The versions that a table `version` says, two of them at most.
-fn versions<S: Alter>(conn: &mut Connection<S>) -> Result<Vec<Row>, Error>
-    ensures spares { (HasCleanDisk (state S.Store conn.old) → IsTrue (state S.Store conn.old).in_transaction) → Spares (state S.Store conn.old) (state S.Store conn.new) }
-    ensures why { HasCleanDisk (state S.Store conn.new) → IsTrue (state S.Store conn.old).is_open → IfErr result (SaysWhy (state S.Store conn.old) (state S.Store conn.new)) }
-    ensures shown { HasCleanDisk (state S.Store conn.new) → IfOk result (λ rows. Shown versions_text [] (state S.Store conn.old) (state S.Store conn.new) rows.items) }
+fn versions<S: Session>(conn: &mut S) -> Result<Vec<Row>, Error>
+    ensures spares { (HasCleanDisk (S.state conn.old) → IsTrue (S.state conn.old).in_transaction) → Spares (S.state conn.old) (S.state conn.new) }
+    ensures why { HasCleanDisk (S.state conn.new) → IsTrue (S.state conn.old).is_open → IfErr result (SaysWhy (S.state conn.old) (S.state conn.new)) }
+    ensures shown { HasCleanDisk (S.state conn.new) → IfOk result (λ rows. Shown versions_text [] (S.state conn.old) (S.state conn.new) rows.items) }
 {
     conn.query_all("SELECT number FROM version LIMIT 2", &[])
 }
 
 /// Whether a database has a table of that name, in which the library can read: a view is none.
-fn has_versions<S: Alter>(conn: &Connection<S>) -> bool {
+fn has_versions<S: Session>(conn: &S) -> bool {
     conn.schema().tables.as_slice().iter().any(|table| same_name(
         table.name.as_slice(),
         "version".as_bytes(),
@@ -54,12 +54,9 @@ fn number_said(rows: &[Row]) -> Option<i64>
 
 /// What shown versions come to. Where none are shown though the transaction is still open, there are none to read; where it was
 /// taken back, memory is wanting or the device failed.
-fn told<S: Alter>(
-    conn: &Connection<S>,
-    shown: Result<Vec<Row>, Error>,
-) -> Result<Option<i64>, Error>
+fn told<S: Session>(conn: &S, shown: Result<Vec<Row>, Error>) -> Result<Option<i64>, Error>
     ensures said { IfOk result (λ said. IfSome said (λ number. IsOkAnd shown (λ rows. SaysNumber rows.items number))) }
-    ensures none { IfErr result (λ e. (shown ≡ Err e) × ((state S.Store conn.now).in_transaction ≡ false)) }
+    ensures none { IfErr result (λ e. (shown ≡ Err e) × ((S.state conn.now).in_transaction ≡ false)) }
 {
     match shown {
         Ok(rows) => Ok(number_said(&rows)),
@@ -75,10 +72,10 @@ fn told<S: Alter>(
 
 /// The number that the one row of a table `version` says, whatever other tables there are; None where there is no such table, or
 /// no such row. Nothing is committed; a transaction may be left open.
-pub fn version_said<S: Alter>(conn: &mut Connection<S>) -> Result<Option<i64>, Error>
-    ensures spares { Spares (state S.Store conn.old) (state S.Store conn.new) }
-    ensures blame { HasCleanDisk (state S.Store conn.new) → IsTrue (state S.Store conn.old).is_open → (state S.Store conn.old).in_transaction ≡ false → FailsForCause S.Store conn.old conn.new result }
-    ensures said { HasCleanDisk (state S.Store conn.new) → IfOk result (λ said. IfSome said (TellsVersion S.Store (tables S.Store conn.old))) }
+pub fn version_said<S: Session>(conn: &mut S) -> Result<Option<i64>, Error>
+    ensures spares { Spares (S.state conn.old) (S.state conn.new) }
+    ensures blame { HasCleanDisk (S.state conn.new) → IsTrue (S.state conn.old).is_open → (S.state conn.old).in_transaction ≡ false → FailsForCause S.state conn.old conn.new result }
+    ensures said { HasCleanDisk (S.state conn.new) → IfOk result (λ said. IfSome said (TellsVersion S.state (tables S.state conn.old))) }
 {
     if !has_versions(conn) {
         return Ok(None);

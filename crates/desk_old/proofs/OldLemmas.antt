@@ -2,7 +2,7 @@
 use Rattle.std.proofs.Common.{◌≡◌, ◌≢◌, ◌↔◌, ◌∙◌, ℕ, ℤ, List, length, Option, None, Some, IfSome, IsSomeAnd, refl, sym, ap, subst, arith}
 use Rattle.sqlite.specs.Effect.{Database}
 use Rattle.sqlite.specs.Schema.{Schema}
-use Rattle.sqlite_trees.specs.declared.store.Store.{Ghosts}
+use Rattle.sqlite.specs.State.{State}
 use Rattle.desk_rules.specs.declared.limits.TheConstants.{MOST_ENTRIES}
 use Rattle.desk_rules.specs.Content.{Content}
 use Rattle.sql_tables.specs.Schema.{desk_schema, first_schema}
@@ -30,6 +30,6 @@ module _ (db : Database) (content : Content) where
       go Second Third earlier first held holds = absurd (held refl)
       go Third v earlier first held holds = absurd (earlier refl)
 
-pub says_neither : {S : Type 0} (store : Ghosts S) (db : Database) (said : Option ℤ) → IfSome said (TellsVersion store db) → IsSomeAnd said IsNeither → SaysNeither store db
-says_neither store db None told neither = absurd neither
-says_neither store db (Some number) told neither = record { number = number; told = told; neither = neither }
+pub says_neither : {S : Type 0} (state : S → State) (db : Database) (said : Option ℤ) → IfSome said (TellsVersion state db) → IsSomeAnd said IsNeither → SaysNeither state db
+says_neither state db None told neither = absurd neither
+says_neither state db (Some number) told neither = record { number = number; told = told; neither = neither }

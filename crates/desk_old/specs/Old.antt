@@ -1,11 +1,11 @@
 -- What a file of an earlier version holds.
 use Rattle.std.specs.Prelude.{◌≡◌, ◌≢◌, ℕ, ℤ, pos, List}
 use Rattle.sqlite.specs.Effect.{Database, IsDatabase}
-use Rattle.sqlite.specs.Files.{over_files, AreFoundIn, HoldsDatabase}
+use Rattle.sqlite.specs.Files.{file_state, AreFoundIn, HoldsDatabase}
+use Rattle.sqlite.specs.State.{State}
 use Rattle.sqlite.specs.declared.file.Leftover.{Leftover}
 use Rattle.sqlite_disk.specs.declared.Disk as disk
 use Rattle.sqlite_trees.specs.Tree.{Trees}
-use Rattle.sqlite_trees.specs.declared.store.Store.{Ghosts}
 use Rattle.sqlite_wal.specs.Recovery.{Image}
 use Rattle.desk_rules.specs.declared.history.entry.Entry.{Entry}
 use Rattle.desk_rules.specs.declared.limits.TheConstants.{MOST_ENTRIES}
@@ -44,9 +44,9 @@ pub record IsNeither (number : ℤ) : Type 0 where
   pub second : number ≢ pos 2
 
 -- the database tells such a version
-pub record SaysNeither {S : Type 0} (store : Ghosts S) (db : Database) : Type 0 where
+pub record SaysNeither {S : Type 0} (state : S → State) (db : Database) : Type 0 where
   pub number : ℤ
-  pub told : TellsVersion store db number
+  pub told : TellsVersion state db number
   pub neither : IsNeither number
 
 -- ---- the same of files
@@ -68,4 +68,4 @@ pub record SaysNeitherIn {D : Type 0} {g : disk.Ghosts D} (image : Image) (left 
   pub is : IsDatabase db
   pub reads : AreFoundIn image db.trees
   pub only : (trees : Trees) → HoldsDatabase image trees → db.trees ≡ trees
-  pub says : SaysNeither (over_files {g = g}) db
+  pub says : SaysNeither (file_state {g = g}) db

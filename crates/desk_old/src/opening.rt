@@ -33,7 +33,7 @@ pub fn old_entries_from<S: Alter + Drop>(
     ensures kept { IfOk result (λ read. IsClean (S.Store.view read.1) → IsTrue (S.Store.view read.1).is_open → IsHandedBack (S.Store.view read.1) (state S.Store conn)) }
     ensures back { IfErr result (λ e. IsClean (S.Store.view e.1) → IsTrue (S.Store.view e.1).is_open → IsHandedBack (S.Store.view e.1) (state S.Store conn)) }
     ensures refused { IfErr result (λ e. IsClean (S.Store.view e.1) → IsRefusal e.0 → ¬ IsOld (state S.Store conn).committed) }
-    ensures other { IfErr result (λ e. IsClean (S.Store.view e.1) → e.0 ≡ OpenFault.OtherVersion → SaysNeither S.Store (state S.Store conn).committed) }
+    ensures other { IfErr result (λ e. IsClean (S.Store.view e.1) → e.0 ≡ OpenFault.OtherVersion → SaysNeither (state S.Store) (state S.Store conn).committed) }
     ensures blame { IfErr result (λ e. IsClean (S.Store.view e.1) → IsTrue (state S.Store conn).is_open → e.0 ≡ Storage → 0 < S.Store.faults e.1) }
 {
     match reopen(alloc, conn) {

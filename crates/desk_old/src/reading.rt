@@ -1,6 +1,5 @@
 //! The entries of a database of an earlier version.
 ghost use Rattle.std.specs.Prelude.{◌≡◌, ◌≢◌, ◌↔◌, false, Err, IfErr, IfOk, IsSomeAnd, IsTrue, None};
-ghost use Rattle.sqlite.specs.Held.{state};
 ghost use Rattle.sqlite.specs.State.{HasCleanDisk};
 ghost use Rattle.desk_rules.specs.Content.{Content};
 ghost use Rattle.sql_tables.specs.Calls.{tables};
@@ -17,14 +16,14 @@ use desk_file::{
 };
 use desk_rules::{Entry, MOST_ENTRIES};
 use memory_register::ListRegister;
+use sql_tables::session::Session;
 use sql_tables::versions::Version;
-use sqlite::{Alter, Connection};
 use std::alloc::Global;
 
 /// The version that a database is audited as: the first, where it has just these tables.
-fn version_of<S: Alter>(conn: &Connection<S>) -> Version
+fn version_of<S: Session>(conn: &S) -> Version
     ensures earlier { result ≢ Version.Third }
-    ensures first { (result ≡ Version.First) ↔ ((state S.Store conn.now).now.schema ≡ first_schema) }
+    ensures first { (result ≡ Version.First) ↔ ((S.state conn.now).now.schema ≡ first_schema) }
 {
     if has_desk_tables(conn, Version::First) {
         Version::First
@@ -45,10 +44,10 @@ fn refused_for(said: Option<i64>) -> OpenFault
 }
 
 /// Why a database that is none of these versions is refused.
-fn refusal<S: Alter, P: Progress>(conn: &mut Connection<S>, progress: &mut P) -> OpenFault
-    ensures spares { Spares (state S.Store conn.old) (state S.Store conn.new) }
-    ensures blame { HasCleanDisk (state S.Store conn.new) → IsTrue (state S.Store conn.old).is_open → (state S.Store conn.old).in_transaction ≡ false → (state S.Store conn.old).step_limit ≡ None → IsBlamed (state S.Store conn.old) (state S.Store conn.new) result }
-    ensures other { HasCleanDisk (state S.Store conn.new) → result ≡ OpenFault.OtherVersion → SaysNeither S.Store (tables S.Store conn.old) }
+fn refusal<S: Session, P: Progress>(conn: &mut S, progress: &mut P) -> OpenFault
+    ensures spares { Spares (S.state conn.old) (S.state conn.new) }
+    ensures blame { HasCleanDisk (S.state conn.new) → IsTrue (S.state conn.old).is_open → (S.state conn.old).in_transaction ≡ false → (S.state conn.old).step_limit ≡ None → IsBlamed (S.state conn.old) (S.state conn.new) result }
+    ensures other { HasCleanDisk (S.state conn.new) → result ≡ OpenFault.OtherVersion → SaysNeither S.state (tables S.state conn.old) }
 {
     match version_said(conn) {
         Ok(said) => {
@@ -60,19 +59,19 @@ fn refusal<S: Alter, P: Progress>(conn: &mut Connection<S>, progress: &mut P) ->
 }
 
 /// The entries that a database holds which was just opened, so that no limit is set on the steps of a query.
-pub fn read_old<S: Alter, P: Progress>(
+pub fn read_old<S: Session, P: Progress>(
     alloc: Global,
-    conn: &mut Connection<S>,
+    conn: &mut S,
     progress: &mut P,
 ) -> Result<Vec<Entry>, OpenFault>
-    requires unlimited { (state S.Store conn.old).step_limit ≡ None }
-    requires open { HasCleanDisk (state S.Store conn.old) → StandsOpen (state S.Store conn.old) }
-    ensures which { HasCleanDisk (state S.Store conn.new) → IfOk result (λ entries. HoldsEntries (tables S.Store conn.old) entries.items) }
+    requires unlimited { (S.state conn.old).step_limit ≡ None }
+    requires open { HasCleanDisk (S.state conn.old) → StandsOpen (S.state conn.old) }
+    ensures which { HasCleanDisk (S.state conn.new) → IfOk result (λ entries. HoldsEntries (tables S.state conn.old) entries.items) }
     ensures accepted { IfOk result (λ entries. AreHistory entries.items) }
-    ensures spares { Spares (state S.Store conn.old) (state S.Store conn.new) }
-    ensures refused { HasCleanDisk (state S.Store conn.new) → IfErr result (λ fault. IsRefusal fault → (content : Content) → ¬ HoldsOld (tables S.Store conn.old) content) }
-    ensures other { HasCleanDisk (state S.Store conn.new) → result ≡ Err OpenFault.OtherVersion → SaysNeither S.Store (tables S.Store conn.old) }
-    ensures blame { HasCleanDisk (state S.Store conn.new) → IfErr result (IsBlamed (state S.Store conn.old) (state S.Store conn.new)) }
+    ensures spares { Spares (S.state conn.old) (S.state conn.new) }
+    ensures refused { HasCleanDisk (S.state conn.new) → IfErr result (λ fault. IsRefusal fault → (content : Content) → ¬ HoldsOld (tables S.state conn.old) content) }
+    ensures other { HasCleanDisk (S.state conn.new) → result ≡ Err OpenFault.OtherVersion → SaysNeither S.state (tables S.state conn.old) }
+    ensures blame { HasCleanDisk (S.state conn.new) → IfErr result (IsBlamed (S.state conn.old) (S.state conn.new)) }
 {
     let mut memory = ListRegister::new(alloc, MOST_ENTRIES);
     let version = version_of(conn);

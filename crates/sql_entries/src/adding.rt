@@ -8,9 +8,10 @@ ghost use Rattle.sql_tables.specs.Calls.{FailsForCause, Soundly, Writes, tables}
 
 use crate::values::row_values;
 use desk_rules::{Entry, Reply, well_formed};
+use sql_tables::session::Session;
 use sql_tables::statement::execute;
 use sql_tables::versions::Version;
-use sqlite::{Alter, Connection, Error};
+use sqlite::Error;
 
 /// An entry is well formed: whoever sends one has a name.
 fn formed(entry: &Entry)
@@ -21,16 +22,16 @@ fn formed(entry: &Entry)
 
 /// Adds the entry of this number, one above the last, with its reply. It is refused where its sender has used its
 /// reference before.
-pub fn add_entry<S: Alter>(
-    conn: &mut Connection<S>,
+pub fn add_entry<S: Session>(
+    conn: &mut S,
     number: u64,
     entry: &Entry,
     reply: &Reply,
 ) -> Result<(), Error>
     requires { number < 2 ^ 63 }
-    ensures added { Soundly S.Store conn.old conn.new ((register : List Kept) → AreEntries (tables S.Store conn.old) register → number ≡ length register + 1 → OnOk result (EntryAdded (tables S.Store conn.old) (tables S.Store conn.new) register entry.now reply.now)) }
-    ensures write { Writes S.Store conn.old conn.new result }
-    ensures blame { Soundly S.Store conn.old conn.new ((register : List Kept) → AreEntries (tables S.Store conn.old) register → number ≡ length register + 1 → AreWellFormed (entries_in register) → number_of_key (entries_in register) (sender_of entry.now) (reference_of entry.now) ≡ None → FailsForCause S.Store conn.old conn.new result) }
+    ensures added { Soundly S.state conn.old conn.new ((register : List Kept) → AreEntries (tables S.state conn.old) register → number ≡ length register + 1 → OnOk result (EntryAdded (tables S.state conn.old) (tables S.state conn.new) register entry.now reply.now)) }
+    ensures write { Writes S.state conn.old conn.new result }
+    ensures blame { Soundly S.state conn.old conn.new ((register : List Kept) → AreEntries (tables S.state conn.old) register → number ≡ length register + 1 → AreWellFormed (entries_in register) → number_of_key (entries_in register) (sender_of entry.now) (reference_of entry.now) ≡ None → FailsForCause S.state conn.old conn.new result) }
 {
     formed(entry);
     let row = row_values(Version::Third, number, entry, reply);

@@ -29,22 +29,23 @@ use crate::told::{can_say, entry_of};
 use crate::values::row_values;
 use desk_rules::{Entry, Kept, Reply, well_formed};
 use sql_tables::compared::same_row;
+use sql_tables::session::Session;
 use sql_tables::statement::query_of;
 use sql_tables::values::integer;
 use sql_tables::versions::Version;
 use sqlite::types::ValueRef;
-use sqlite::{Alter, Connection, Error, ErrorCode, Row};
+use sqlite::{Error, ErrorCode, Row};
 use std::alloc::Global;
 
 /// Where the columns of a reply begin in a row that is shown.
 const REPLY: usize = 16;
 
 /// The rows of a number: the columns that say an entry, those of its reply, and the two that are not read but compared.
-fn rows_at<S: Alter>(conn: &mut Connection<S>, number: u64) -> Result<Vec<Row>, Error>
+fn rows_at<S: Session>(conn: &mut S, number: u64) -> Result<Vec<Row>, Error>
     requires { number < 2 ^ 63 }
-    ensures shown { (version : AnyVersion) → SoundlyIn S.Store conn.old conn.new (schema_in version) (IfOk result (λ rows. IsPermutation (map shown (filter (has_number number) ((tables S.Store conn.old).trees (register_tree version)))) rows.items)) }
-    ensures look { (version : AnyVersion) → LooksIn S.Store conn.old conn.new (schema_in version) result }
-    ensures blame { (version : AnyVersion) → SoundlyIn S.Store conn.old conn.new (schema_in version) (FailsForCause S.Store conn.old conn.new result) }
+    ensures shown { (version : AnyVersion) → SoundlyIn S.state conn.old conn.new (schema_in version) (IfOk result (λ rows. IsPermutation (map shown (filter (has_number number) ((tables S.state conn.old).trees (register_tree version)))) rows.items)) }
+    ensures look { (version : AnyVersion) → LooksIn S.state conn.old conn.new (schema_in version) result }
+    ensures blame { (version : AnyVersion) → SoundlyIn S.state conn.old conn.new (schema_in version) (FailsForCause S.state conn.old conn.new result) }
 {
     query_of(
         conn,
@@ -54,11 +55,11 @@ fn rows_at<S: Alter>(conn: &mut Connection<S>, number: u64) -> Result<Vec<Row>, 
 }
 
 /// The numbers above one.
-fn rows_above<S: Alter>(conn: &mut Connection<S>, number: u64) -> Result<Vec<Row>, Error>
+fn rows_above<S: Session>(conn: &mut S, number: u64) -> Result<Vec<Row>, Error>
     requires { number < 2 ^ 63 }
-    ensures shown { (version : AnyVersion) → SoundlyIn S.Store conn.old conn.new (schema_in version) (IfOk result (λ rows. rows.items ≡ [] ↔ filter (is_above number) ((tables S.Store conn.old).trees (register_tree version)) ≡ [])) }
-    ensures look { (version : AnyVersion) → LooksIn S.Store conn.old conn.new (schema_in version) result }
-    ensures blame { (version : AnyVersion) → SoundlyIn S.Store conn.old conn.new (schema_in version) (FailsForCause S.Store conn.old conn.new result) }
+    ensures shown { (version : AnyVersion) → SoundlyIn S.state conn.old conn.new (schema_in version) (IfOk result (λ rows. rows.items ≡ [] ↔ filter (is_above number) ((tables S.state conn.old).trees (register_tree version)) ≡ [])) }
+    ensures look { (version : AnyVersion) → LooksIn S.state conn.old conn.new (schema_in version) result }
+    ensures blame { (version : AnyVersion) → SoundlyIn S.state conn.old conn.new (schema_in version) (FailsForCause S.state conn.old conn.new result) }
 {
     query_of(
         conn,
@@ -68,11 +69,11 @@ fn rows_above<S: Alter>(conn: &mut Connection<S>, number: u64) -> Result<Vec<Row
 }
 
 /// The numbers below one.
-fn rows_below<S: Alter>(conn: &mut Connection<S>, number: u64) -> Result<Vec<Row>, Error>
+fn rows_below<S: Session>(conn: &mut S, number: u64) -> Result<Vec<Row>, Error>
     requires { number < 2 ^ 63 }
-    ensures shown { (version : AnyVersion) → SoundlyIn S.Store conn.old conn.new (schema_in version) (IfOk result (λ rows. rows.items ≡ [] ↔ filter (is_below number) ((tables S.Store conn.old).trees (register_tree version)) ≡ [])) }
-    ensures look { (version : AnyVersion) → LooksIn S.Store conn.old conn.new (schema_in version) result }
-    ensures blame { (version : AnyVersion) → SoundlyIn S.Store conn.old conn.new (schema_in version) (FailsForCause S.Store conn.old conn.new result) }
+    ensures shown { (version : AnyVersion) → SoundlyIn S.state conn.old conn.new (schema_in version) (IfOk result (λ rows. rows.items ≡ [] ↔ filter (is_below number) ((tables S.state conn.old).trees (register_tree version)) ≡ [])) }
+    ensures look { (version : AnyVersion) → LooksIn S.state conn.old conn.new (schema_in version) result }
+    ensures blame { (version : AnyVersion) → SoundlyIn S.state conn.old conn.new (schema_in version) (FailsForCause S.state conn.old conn.new result) }
 {
     query_of(
         conn,
@@ -199,30 +200,30 @@ fn found_in(alloc: Global, rows: &[Row], version: Version, number: u64) -> Resul
 }
 
 /// What stands under a number. The row of a well-formed entry with a reply of short numbers is always found to be it.
-pub fn found_at<S: Alter>(
+pub fn found_at<S: Session>(
     alloc: Global,
-    conn: &mut Connection<S>,
+    conn: &mut S,
     version: Version,
     number: u64,
 ) -> Result<Found, Error>
     requires { number < 2 ^ 63 }
-    ensures found { SoundlyIn S.Store conn.old conn.new (schema_in version) (AllByRecursion (HasForm register_table) ((tables S.Store conn.old).trees (register_tree version)) → IfOk result (λ found. IsFound version ((tables S.Store conn.old).trees (register_tree version)) number found)) }
-    ensures exact { SoundlyIn S.Store conn.old conn.new (schema_in version) ((kept : Pair) → IsRowOf version ((tables S.Store conn.old).trees (register_tree version)) number kept → HasShortNumbers kept.reply → IfOk result (λ found. found ≡ Found.Entry kept)) }
-    ensures nothing { SoundlyIn S.Store conn.old conn.new (schema_in version) (IfOk result (λ found. (found ≡ Found.Nothing) ↔ (filter (has_number number) ((tables S.Store conn.old).trees (register_tree version)) ≡ []))) }
+    ensures found { SoundlyIn S.state conn.old conn.new (schema_in version) (AllByRecursion (HasForm register_table) ((tables S.state conn.old).trees (register_tree version)) → IfOk result (λ found. IsFound version ((tables S.state conn.old).trees (register_tree version)) number found)) }
+    ensures exact { SoundlyIn S.state conn.old conn.new (schema_in version) ((kept : Pair) → IsRowOf version ((tables S.state conn.old).trees (register_tree version)) number kept → HasShortNumbers kept.reply → IfOk result (λ found. found ≡ Found.Entry kept)) }
+    ensures nothing { SoundlyIn S.state conn.old conn.new (schema_in version) (IfOk result (λ found. (found ≡ Found.Nothing) ↔ (filter (has_number number) ((tables S.state conn.old).trees (register_tree version)) ≡ []))) }
     ensures formed { IfOk result IsFormed }
-    ensures look { LooksIn S.Store conn.old conn.new (schema_in version) result }
-    ensures blame { SoundlyIn S.Store conn.old conn.new (schema_in version) (FailsForCause S.Store conn.old conn.new result) }
+    ensures look { LooksIn S.state conn.old conn.new (schema_in version) result }
+    ensures blame { SoundlyIn S.state conn.old conn.new (schema_in version) (FailsForCause S.state conn.old conn.new result) }
 {
     let rows = rows_at(conn, number)?;
     found_in(alloc, &rows, version, number)
 }
 
 /// Whether there is no row below 1, nor above the last.
-pub fn has_no_other<S: Alter>(conn: &mut Connection<S>, count: u64) -> Result<bool, Error>
+pub fn has_no_other<S: Session>(conn: &mut S, count: u64) -> Result<bool, Error>
     requires { count < 2 ^ 63 }
-    ensures none { (version : AnyVersion) → SoundlyIn S.Store conn.old conn.new (schema_in version) (IfOk result (λ ok. IsTrue ok ↔ HasNoOther ((tables S.Store conn.old).trees (register_tree version)) count)) }
-    ensures look { (version : AnyVersion) → LooksIn S.Store conn.old conn.new (schema_in version) result }
-    ensures blame { (version : AnyVersion) → SoundlyIn S.Store conn.old conn.new (schema_in version) (FailsForCause S.Store conn.old conn.new result) }
+    ensures none { (version : AnyVersion) → SoundlyIn S.state conn.old conn.new (schema_in version) (IfOk result (λ ok. IsTrue ok ↔ HasNoOther ((tables S.state conn.old).trees (register_tree version)) count)) }
+    ensures look { (version : AnyVersion) → LooksIn S.state conn.old conn.new (schema_in version) result }
+    ensures blame { (version : AnyVersion) → SoundlyIn S.state conn.old conn.new (schema_in version) (FailsForCause S.state conn.old conn.new result) }
 {
     if !rows_above(conn, count)?.is_empty() {
         return Ok(false);

@@ -17,17 +17,18 @@ use desk_codes::{AccountId, Bic, Day, Isin, Reference};
 use desk_msg::{Instruction, Kind};
 use desk_rules::Sender;
 use sql_tables::rows::{is_shown, only_bic, only_day, only_isin, only_kind, only_number};
-use sqlite::{Alter, Connection, Error, Row};
+use sql_tables::session::Session;
+use sqlite::{Error, Row};
 
 /// The row of the first entry of this sender and reference.
-fn rows_of_key<S: Alter>(
-    conn: &mut Connection<S>,
+fn rows_of_key<S: Session>(
+    conn: &mut S,
     sender: Sender,
     reference: Reference,
 ) -> Result<Vec<Row>, Error>
-    ensures shown { Soundly S.Store conn.old conn.new ((register : List Kept) → AreEntries (tables S.Store conn.old) register → IfOk result (λ rows. rows.items ≡ number_rows (number_of_key (entries_in register) sender reference))) }
-    ensures look { Looks S.Store conn.old conn.new result }
-    ensures blame { Soundly S.Store conn.old conn.new (FailsForCause S.Store conn.old conn.new result) }
+    ensures shown { Soundly S.state conn.old conn.new ((register : List Kept) → AreEntries (tables S.state conn.old) register → IfOk result (λ rows. rows.items ≡ number_rows (number_of_key (entries_in register) sender reference))) }
+    ensures look { Looks S.state conn.old conn.new result }
+    ensures blame { Soundly S.state conn.old conn.new (FailsForCause S.state conn.old conn.new result) }
 {
     match sender {
         Sender::Operator => texts::entry_of_operator(conn, reference),
@@ -36,57 +37,54 @@ fn rows_of_key<S: Alter>(
 }
 
 /// The number of the first entry of this sender and reference; None where there is none.
-pub fn number_of<S: Alter>(
-    conn: &mut Connection<S>,
+pub fn number_of<S: Session>(
+    conn: &mut S,
     sender: Sender,
     reference: Reference,
 ) -> Result<Option<u64>, Error>
-    ensures value { Soundly S.Store conn.old conn.new ((register : List Kept) → AreEntries (tables S.Store conn.old) register → IfOk result (λ r. r ≡ number_of_key (entries_in register) sender reference)) }
-    ensures look { Looks S.Store conn.old conn.new result }
-    ensures blame { Soundly S.Store conn.old conn.new ((register : List Kept) → AreEntries (tables S.Store conn.old) register → FailsForCause S.Store conn.old conn.new result) }
+    ensures value { Soundly S.state conn.old conn.new ((register : List Kept) → AreEntries (tables S.state conn.old) register → IfOk result (λ r. r ≡ number_of_key (entries_in register) sender reference)) }
+    ensures look { Looks S.state conn.old conn.new result }
+    ensures blame { Soundly S.state conn.old conn.new ((register : List Kept) → AreEntries (tables S.state conn.old) register → FailsForCause S.state conn.old conn.new result) }
 {
     let rows = rows_of_key(conn, sender, reference)?;
     only_number(&rows)
 }
 
 /// Whether a BIC is a participant's.
-pub fn is_participant<S: Alter>(conn: &mut Connection<S>, bic: Bic) -> Result<bool, Error>
-    ensures value { Soundly S.Store conn.old conn.new ((register : List Kept) → AreEntries (tables S.Store conn.old) register → IfOk result (λ r. r ≡ is_participant (entries_in register) bic)) }
-    ensures look { Looks S.Store conn.old conn.new result }
-    ensures blame { Soundly S.Store conn.old conn.new ((register : List Kept) → AreEntries (tables S.Store conn.old) register → FailsForCause S.Store conn.old conn.new result) }
+pub fn is_participant<S: Session>(conn: &mut S, bic: Bic) -> Result<bool, Error>
+    ensures value { Soundly S.state conn.old conn.new ((register : List Kept) → AreEntries (tables S.state conn.old) register → IfOk result (λ r. r ≡ is_participant (entries_in register) bic)) }
+    ensures look { Looks S.state conn.old conn.new result }
+    ensures blame { Soundly S.state conn.old conn.new ((register : List Kept) → AreEntries (tables S.state conn.old) register → FailsForCause S.state conn.old conn.new result) }
 {
     let rows = texts::participant(conn, bic)?;
     is_shown(&rows)
 }
 
 /// Whose an account is; None where there is no such account.
-pub fn owner_of<S: Alter>(
-    conn: &mut Connection<S>,
-    account: AccountId,
-) -> Result<Option<Bic>, Error>
-    ensures value { Soundly S.Store conn.old conn.new ((register : List Kept) → AreEntries (tables S.Store conn.old) register → IfOk result (λ r. r ≡ owner_of (entries_in register) account)) }
-    ensures look { Looks S.Store conn.old conn.new result }
-    ensures blame { Soundly S.Store conn.old conn.new ((register : List Kept) → AreEntries (tables S.Store conn.old) register → AreWellFormed (entries_in register) → FailsForCause S.Store conn.old conn.new result) }
+pub fn owner_of<S: Session>(conn: &mut S, account: AccountId) -> Result<Option<Bic>, Error>
+    ensures value { Soundly S.state conn.old conn.new ((register : List Kept) → AreEntries (tables S.state conn.old) register → IfOk result (λ r. r ≡ owner_of (entries_in register) account)) }
+    ensures look { Looks S.state conn.old conn.new result }
+    ensures blame { Soundly S.state conn.old conn.new ((register : List Kept) → AreEntries (tables S.state conn.old) register → AreWellFormed (entries_in register) → FailsForCause S.state conn.old conn.new result) }
 {
     let rows = texts::owner(conn, account)?;
     only_bic(&rows)
 }
 
 /// How a security is counted; None where there is no such security.
-pub fn kind_of<S: Alter>(conn: &mut Connection<S>, isin: Isin) -> Result<Option<Kind>, Error>
-    ensures value { Soundly S.Store conn.old conn.new ((register : List Kept) → AreEntries (tables S.Store conn.old) register → IfOk result (λ r. r ≡ kind_of (entries_in register) isin)) }
-    ensures look { Looks S.Store conn.old conn.new result }
-    ensures blame { Soundly S.Store conn.old conn.new ((register : List Kept) → AreEntries (tables S.Store conn.old) register → FailsForCause S.Store conn.old conn.new result) }
+pub fn kind_of<S: Session>(conn: &mut S, isin: Isin) -> Result<Option<Kind>, Error>
+    ensures value { Soundly S.state conn.old conn.new ((register : List Kept) → AreEntries (tables S.state conn.old) register → IfOk result (λ r. r ≡ kind_of (entries_in register) isin)) }
+    ensures look { Looks S.state conn.old conn.new result }
+    ensures blame { Soundly S.state conn.old conn.new ((register : List Kept) → AreEntries (tables S.state conn.old) register → FailsForCause S.state conn.old conn.new result) }
 {
     let rows = texts::security(conn, isin)?;
     only_kind(&rows)
 }
 
 /// The row of the first security above one; with none, of the first of all.
-fn rows_above<S: Alter>(conn: &mut Connection<S>, isin: Option<Isin>) -> Result<Vec<Row>, Error>
-    ensures shown { Soundly S.Store conn.old conn.new ((register : List Kept) → AreEntries (tables S.Store conn.old) register → IfOk result (λ rows. (found : Option (List ℕ)) × (rows.items ≡ text_rows found) × IsSecurityAfter (entries_in register) isin found)) }
-    ensures look { Looks S.Store conn.old conn.new result }
-    ensures blame { Soundly S.Store conn.old conn.new (FailsForCause S.Store conn.old conn.new result) }
+fn rows_above<S: Session>(conn: &mut S, isin: Option<Isin>) -> Result<Vec<Row>, Error>
+    ensures shown { Soundly S.state conn.old conn.new ((register : List Kept) → AreEntries (tables S.state conn.old) register → IfOk result (λ rows. (found : Option (List ℕ)) × (rows.items ≡ text_rows found) × IsSecurityAfter (entries_in register) isin found)) }
+    ensures look { Looks S.state conn.old conn.new result }
+    ensures blame { Soundly S.state conn.old conn.new (FailsForCause S.state conn.old conn.new result) }
 {
     match isin {
         Some(isin) => texts::security_above(conn, isin),
@@ -95,23 +93,20 @@ fn rows_above<S: Alter>(conn: &mut Connection<S>, isin: Option<Isin>) -> Result<
 }
 
 /// The first security, in order of its bytes, after one; with none, the first of all. None where there is none.
-pub fn security_after<S: Alter>(
-    conn: &mut Connection<S>,
-    isin: Option<Isin>,
-) -> Result<Option<Isin>, Error>
-    ensures value { Soundly S.Store conn.old conn.new ((register : List Kept) → AreEntries (tables S.Store conn.old) register → IfOk result (λ r. IsSecurityAfter (entries_in register) isin r)) }
-    ensures look { Looks S.Store conn.old conn.new result }
-    ensures blame { Soundly S.Store conn.old conn.new ((register : List Kept) → AreEntries (tables S.Store conn.old) register → AreWellFormed (entries_in register) → FailsForCause S.Store conn.old conn.new result) }
+pub fn security_after<S: Session>(conn: &mut S, isin: Option<Isin>) -> Result<Option<Isin>, Error>
+    ensures value { Soundly S.state conn.old conn.new ((register : List Kept) → AreEntries (tables S.state conn.old) register → IfOk result (λ r. IsSecurityAfter (entries_in register) isin r)) }
+    ensures look { Looks S.state conn.old conn.new result }
+    ensures blame { Soundly S.state conn.old conn.new ((register : List Kept) → AreEntries (tables S.state conn.old) register → AreWellFormed (entries_in register) → FailsForCause S.state conn.old conn.new result) }
 {
     let rows = rows_above(conn, isin)?;
     only_isin(&rows)
 }
 
 /// The day of the last run; None before any.
-pub fn last_run<S: Alter>(conn: &mut Connection<S>) -> Result<Option<Day>, Error>
-    ensures value { Soundly S.Store conn.old conn.new ((register : List Kept) → AreEntries (tables S.Store conn.old) register → IfOk result (λ r. option_map number_of r ≡ last_run (entries_in register))) }
-    ensures look { Looks S.Store conn.old conn.new result }
-    ensures blame { Soundly S.Store conn.old conn.new ((register : List Kept) → AreEntries (tables S.Store conn.old) register → AreWellFormed (entries_in register) → FailsForCause S.Store conn.old conn.new result) }
+pub fn last_run<S: Session>(conn: &mut S) -> Result<Option<Day>, Error>
+    ensures value { Soundly S.state conn.old conn.new ((register : List Kept) → AreEntries (tables S.state conn.old) register → IfOk result (λ r. option_map number_of r ≡ last_run (entries_in register))) }
+    ensures look { Looks S.state conn.old conn.new result }
+    ensures blame { Soundly S.state conn.old conn.new ((register : List Kept) → AreEntries (tables S.state conn.old) register → AreWellFormed (entries_in register) → FailsForCause S.state conn.old conn.new result) }
 {
     let rows = texts::last_run_day(conn)?;
     only_day(&rows)
@@ -119,17 +114,17 @@ pub fn last_run<S: Alter>(conn: &mut Connection<S>) -> Result<Option<Day>, Error
 
 /// The least number above one of an instruction that is opposite to this one of its sender, whether it waits or not; None
 /// where there is none.
-pub fn next_opposite<S: Alter>(
-    conn: &mut Connection<S>,
+pub fn next_opposite<S: Session>(
+    conn: &mut S,
     sender: Bic,
     instruction: &Instruction,
     after: u64,
 ) -> Result<Option<u64>, Error>
     requires { after < 2 ^ 63 }
-    ensures value { Soundly S.Store conn.old conn.new ((register : List Kept) → AreEntries (tables S.Store conn.old) register → IfOk result (λ r. IsNextOpposite (entries_in register) (record { sender = sender; instruction = instruction.now }) after r)) }
-    ensures small { Soundly S.Store conn.old conn.new ((register : List Kept) → AreEntries (tables S.Store conn.old) register → IfOk result (λ r. IfSome r (λ n. n < 2 ^ 63))) }
-    ensures look { Looks S.Store conn.old conn.new result }
-    ensures blame { Soundly S.Store conn.old conn.new ((register : List Kept) → AreEntries (tables S.Store conn.old) register → FailsForCause S.Store conn.old conn.new result) }
+    ensures value { Soundly S.state conn.old conn.new ((register : List Kept) → AreEntries (tables S.state conn.old) register → IfOk result (λ r. IsNextOpposite (entries_in register) (record { sender = sender; instruction = instruction.now }) after r)) }
+    ensures small { Soundly S.state conn.old conn.new ((register : List Kept) → AreEntries (tables S.state conn.old) register → IfOk result (λ r. IfSome r (λ n. n < 2 ^ 63))) }
+    ensures look { Looks S.state conn.old conn.new result }
+    ensures blame { Soundly S.state conn.old conn.new ((register : List Kept) → AreEntries (tables S.state conn.old) register → FailsForCause S.state conn.old conn.new result) }
 {
     let rows = texts::opposite_above(conn, sender, instruction, after)?;
     only_number(&rows)

@@ -18,19 +18,20 @@ ghost use Rattle.sql_tables.specs.Calls.{FailsForCause, Looks, Soundly, tables};
 use crate::entry::entry_in;
 use desk_rules::{Entry, Reply, Text};
 use sql_tables::rows::{number_at, short_at, text_at};
+use sql_tables::session::Session;
 use sql_tables::statement::query;
 use sql_tables::values::integer;
 use sqlite::types::ValueRef;
-use sqlite::{Alter, Connection, Error, ErrorCode, Row};
+use sqlite::{Error, ErrorCode, Row};
 use std::alloc::Global;
 
 /// The greatest integer of SQL.
 const GREATEST: u64 = i64::MAX as u64;
 
-fn last_rows<S: Alter>(conn: &mut Connection<S>) -> Result<Vec<Row>, Error>
-    ensures shown { Soundly S.Store conn.old conn.new ((register : List Kept) → AreEntries (tables S.Store conn.old) register → IfOk result (λ rows. rows.items ≡ count_rows (length register))) }
-    ensures look { Looks S.Store conn.old conn.new result }
-    ensures blame { Soundly S.Store conn.old conn.new (FailsForCause S.Store conn.old conn.new result) }
+fn last_rows<S: Session>(conn: &mut S) -> Result<Vec<Row>, Error>
+    ensures shown { Soundly S.state conn.old conn.new ((register : List Kept) → AreEntries (tables S.state conn.old) register → IfOk result (λ rows. rows.items ≡ count_rows (length register))) }
+    ensures look { Looks S.state conn.old conn.new result }
+    ensures blame { Soundly S.state conn.old conn.new (FailsForCause S.state conn.old conn.new result) }
 {
     query(
         conn,
@@ -39,11 +40,11 @@ fn last_rows<S: Alter>(conn: &mut Connection<S>) -> Result<Vec<Row>, Error>
     )
 }
 
-fn entry_rows<S: Alter>(conn: &mut Connection<S>, number: u64) -> Result<Vec<Row>, Error>
+fn entry_rows<S: Session>(conn: &mut S, number: u64) -> Result<Vec<Row>, Error>
     requires { number < 2 ^ 63 }
-    ensures shown { Soundly S.Store conn.old conn.new ((register : List Kept) → AreEntries (tables S.Store conn.old) register → IfOk result (λ rows. rows.items ≡ row_if (λ kept. shown_entry kept.entry) (kept_at register number))) }
-    ensures look { Looks S.Store conn.old conn.new result }
-    ensures blame { Soundly S.Store conn.old conn.new (FailsForCause S.Store conn.old conn.new result) }
+    ensures shown { Soundly S.state conn.old conn.new ((register : List Kept) → AreEntries (tables S.state conn.old) register → IfOk result (λ rows. rows.items ≡ row_if (λ kept. shown_entry kept.entry) (kept_at register number))) }
+    ensures look { Looks S.state conn.old conn.new result }
+    ensures blame { Soundly S.state conn.old conn.new (FailsForCause S.state conn.old conn.new result) }
 {
     query(
         conn,
@@ -52,11 +53,11 @@ fn entry_rows<S: Alter>(conn: &mut Connection<S>, number: u64) -> Result<Vec<Row
     )
 }
 
-fn reply_rows<S: Alter>(conn: &mut Connection<S>, number: u64) -> Result<Vec<Row>, Error>
+fn reply_rows<S: Session>(conn: &mut S, number: u64) -> Result<Vec<Row>, Error>
     requires { number < 2 ^ 63 }
-    ensures shown { Soundly S.Store conn.old conn.new ((register : List Kept) → AreEntries (tables S.Store conn.old) register → IfOk result (λ rows. rows.items ≡ row_if (λ kept. shown_reply kept.reply) (kept_at register number))) }
-    ensures look { Looks S.Store conn.old conn.new result }
-    ensures blame { Soundly S.Store conn.old conn.new (FailsForCause S.Store conn.old conn.new result) }
+    ensures shown { Soundly S.state conn.old conn.new ((register : List Kept) → AreEntries (tables S.state conn.old) register → IfOk result (λ rows. rows.items ≡ row_if (λ kept. shown_reply kept.reply) (kept_at register number))) }
+    ensures look { Looks S.state conn.old conn.new result }
+    ensures blame { Soundly S.state conn.old conn.new (FailsForCause S.state conn.old conn.new result) }
 {
     query(
         conn,
@@ -129,10 +130,10 @@ fn first_reply(alloc: Global, rows: &[Row]) -> Result<Option<Reply>, Error>
 }
 
 /// How many entries there are.
-pub fn entry_count<S: Alter>(conn: &mut Connection<S>) -> Result<u64, Error>
-    ensures value { Soundly S.Store conn.old conn.new ((register : List Kept) → AreEntries (tables S.Store conn.old) register → IfOk result (λ count. count ≡ length register)) }
-    ensures look { Looks S.Store conn.old conn.new result }
-    ensures blame { Soundly S.Store conn.old conn.new ((register : List Kept) → AreEntries (tables S.Store conn.old) register → FailsForCause S.Store conn.old conn.new result) }
+pub fn entry_count<S: Session>(conn: &mut S) -> Result<u64, Error>
+    ensures value { Soundly S.state conn.old conn.new ((register : List Kept) → AreEntries (tables S.state conn.old) register → IfOk result (λ count. count ≡ length register)) }
+    ensures look { Looks S.state conn.old conn.new result }
+    ensures blame { Soundly S.state conn.old conn.new ((register : List Kept) → AreEntries (tables S.state conn.old) register → FailsForCause S.state conn.old conn.new result) }
 {
     let rows = last_rows(conn)?;
     count_in(&rows)
@@ -140,14 +141,14 @@ pub fn entry_count<S: Alter>(conn: &mut Connection<S>) -> Result<u64, Error>
 
 /// The entry of this number, counted from 1; None where there is none. Of a row that says no entry of the desk's it is
 /// told that the database is damaged.
-pub fn entry_at<S: Alter>(
-    conn: &mut Connection<S>,
+pub fn entry_at<S: Session>(
+    conn: &mut S,
     alloc: Global,
     number: u64,
 ) -> Result<Option<Entry>, Error>
-    ensures value { Soundly S.Store conn.old conn.new ((register : List Kept) → AreEntries (tables S.Store conn.old) register → IfOk result (λ entry. entry ≡ entry_at (entries_in register) number)) }
-    ensures look { Looks S.Store conn.old conn.new result }
-    ensures blame { Soundly S.Store conn.old conn.new ((register : List Kept) → AreEntries (tables S.Store conn.old) register → AreWellFormed (entries_in register) → FailsForCause S.Store conn.old conn.new result) }
+    ensures value { Soundly S.state conn.old conn.new ((register : List Kept) → AreEntries (tables S.state conn.old) register → IfOk result (λ entry. entry ≡ entry_at (entries_in register) number)) }
+    ensures look { Looks S.state conn.old conn.new result }
+    ensures blame { Soundly S.state conn.old conn.new ((register : List Kept) → AreEntries (tables S.state conn.old) register → AreWellFormed (entries_in register) → FailsForCause S.state conn.old conn.new result) }
 {
     if number > GREATEST {
         return Ok(None);
@@ -158,14 +159,14 @@ pub fn entry_at<S: Alter>(
 
 /// The reply that the entry of this number got, counted from 1; None where there is none. Of a row that says no reply it
 /// is told that the database is damaged.
-pub fn reply_at<S: Alter>(
-    conn: &mut Connection<S>,
+pub fn reply_at<S: Session>(
+    conn: &mut S,
     alloc: Global,
     number: u64,
 ) -> Result<Option<Reply>, Error>
-    ensures value { Soundly S.Store conn.old conn.new ((register : List Kept) → AreEntries (tables S.Store conn.old) register → IfOk result (λ reply. reply ≡ option_map (λ kept. kept.reply) (kept_at register number))) }
-    ensures look { Looks S.Store conn.old conn.new result }
-    ensures blame { Soundly S.Store conn.old conn.new ((register : List Kept) → AreEntries (tables S.Store conn.old) register → HaveShortNumbers register → FailsForCause S.Store conn.old conn.new result) }
+    ensures value { Soundly S.state conn.old conn.new ((register : List Kept) → AreEntries (tables S.state conn.old) register → IfOk result (λ reply. reply ≡ option_map (λ kept. kept.reply) (kept_at register number))) }
+    ensures look { Looks S.state conn.old conn.new result }
+    ensures blame { Soundly S.state conn.old conn.new ((register : List Kept) → AreEntries (tables S.state conn.old) register → HaveShortNumbers register → FailsForCause S.state conn.old conn.new result) }
 {
     if number > GREATEST {
         return Ok(None);

@@ -17,19 +17,20 @@ use crate::opposite::values_asked;
 use desk_codes::{AccountId, Bic, Isin, Reference};
 use desk_msg::Instruction;
 use desk_rules::Sender;
+use sql_tables::session::Session;
 use sql_tables::statement::query;
 use sqlite::types::ValueRef;
-use sqlite::{Alter, Connection, Error, Row};
+use sqlite::{Error, Row};
 
 /// The number of the first entry of a participant with this reference.
-pub fn entry_of_participant<S: Alter>(
-    conn: &mut Connection<S>,
+pub fn entry_of_participant<S: Session>(
+    conn: &mut S,
     sender: Bic,
     reference: Reference,
 ) -> Result<Vec<Row>, Error>
-    ensures shown { Soundly S.Store conn.old conn.new ((register : List Kept) → AreEntries (tables S.Store conn.old) register → IfOk result (λ rows. rows.items ≡ number_rows (number_of_key (entries_in register) (Sender.Participant sender) reference))) }
-    ensures look { Looks S.Store conn.old conn.new result }
-    ensures blame { Soundly S.Store conn.old conn.new (FailsForCause S.Store conn.old conn.new result) }
+    ensures shown { Soundly S.state conn.old conn.new ((register : List Kept) → AreEntries (tables S.state conn.old) register → IfOk result (λ rows. rows.items ≡ number_rows (number_of_key (entries_in register) (Sender.Participant sender) reference))) }
+    ensures look { Looks S.state conn.old conn.new result }
+    ensures blame { Soundly S.state conn.old conn.new (FailsForCause S.state conn.old conn.new result) }
 {
     query(
         conn,
@@ -42,13 +43,10 @@ pub fn entry_of_participant<S: Alter>(
 }
 
 /// The number of the first entry of the operator with this reference: of one that is no instruction and no cancellation.
-pub fn entry_of_operator<S: Alter>(
-    conn: &mut Connection<S>,
-    reference: Reference,
-) -> Result<Vec<Row>, Error>
-    ensures shown { Soundly S.Store conn.old conn.new ((register : List Kept) → AreEntries (tables S.Store conn.old) register → IfOk result (λ rows. rows.items ≡ number_rows (number_of_key (entries_in register) Sender.Operator reference))) }
-    ensures look { Looks S.Store conn.old conn.new result }
-    ensures blame { Soundly S.Store conn.old conn.new (FailsForCause S.Store conn.old conn.new result) }
+pub fn entry_of_operator<S: Session>(conn: &mut S, reference: Reference) -> Result<Vec<Row>, Error>
+    ensures shown { Soundly S.state conn.old conn.new ((register : List Kept) → AreEntries (tables S.state conn.old) register → IfOk result (λ rows. rows.items ≡ number_rows (number_of_key (entries_in register) Sender.Operator reference))) }
+    ensures look { Looks S.state conn.old conn.new result }
+    ensures blame { Soundly S.state conn.old conn.new (FailsForCause S.state conn.old conn.new result) }
 {
     query(
         conn,
@@ -58,10 +56,10 @@ pub fn entry_of_operator<S: Alter>(
 }
 
 /// The BIC, where it is a participant's.
-pub fn participant<S: Alter>(conn: &mut Connection<S>, bic: Bic) -> Result<Vec<Row>, Error>
-    ensures shown { Soundly S.Store conn.old conn.new ((register : List Kept) → AreEntries (tables S.Store conn.old) register → IfOk result (λ rows. rows.items ≡ text_rows (if is_participant (entries_in register) bic then Option.Some bic else Option.None))) }
-    ensures look { Looks S.Store conn.old conn.new result }
-    ensures blame { Soundly S.Store conn.old conn.new (FailsForCause S.Store conn.old conn.new result) }
+pub fn participant<S: Session>(conn: &mut S, bic: Bic) -> Result<Vec<Row>, Error>
+    ensures shown { Soundly S.state conn.old conn.new ((register : List Kept) → AreEntries (tables S.state conn.old) register → IfOk result (λ rows. rows.items ≡ text_rows (if is_participant (entries_in register) bic then Option.Some bic else Option.None))) }
+    ensures look { Looks S.state conn.old conn.new result }
+    ensures blame { Soundly S.state conn.old conn.new (FailsForCause S.state conn.old conn.new result) }
 {
     query(
         conn,
@@ -71,10 +69,10 @@ pub fn participant<S: Alter>(conn: &mut Connection<S>, bic: Bic) -> Result<Vec<R
 }
 
 /// Whose an account is.
-pub fn owner<S: Alter>(conn: &mut Connection<S>, account: AccountId) -> Result<Vec<Row>, Error>
-    ensures shown { Soundly S.Store conn.old conn.new ((register : List Kept) → AreEntries (tables S.Store conn.old) register → IfOk result (λ rows. rows.items ≡ text_rows (owner_of (entries_in register) account))) }
-    ensures look { Looks S.Store conn.old conn.new result }
-    ensures blame { Soundly S.Store conn.old conn.new (FailsForCause S.Store conn.old conn.new result) }
+pub fn owner<S: Session>(conn: &mut S, account: AccountId) -> Result<Vec<Row>, Error>
+    ensures shown { Soundly S.state conn.old conn.new ((register : List Kept) → AreEntries (tables S.state conn.old) register → IfOk result (λ rows. rows.items ≡ text_rows (owner_of (entries_in register) account))) }
+    ensures look { Looks S.state conn.old conn.new result }
+    ensures blame { Soundly S.state conn.old conn.new (FailsForCause S.state conn.old conn.new result) }
 {
     query(
         conn,
@@ -84,10 +82,10 @@ pub fn owner<S: Alter>(conn: &mut Connection<S>, account: AccountId) -> Result<V
 }
 
 /// The quantity type code of a security.
-pub fn security<S: Alter>(conn: &mut Connection<S>, isin: Isin) -> Result<Vec<Row>, Error>
-    ensures shown { Soundly S.Store conn.old conn.new ((register : List Kept) → AreEntries (tables S.Store conn.old) register → IfOk result (λ rows. rows.items ≡ text_rows (option_map code_of_kind (kind_of (entries_in register) isin)))) }
-    ensures look { Looks S.Store conn.old conn.new result }
-    ensures blame { Soundly S.Store conn.old conn.new (FailsForCause S.Store conn.old conn.new result) }
+pub fn security<S: Session>(conn: &mut S, isin: Isin) -> Result<Vec<Row>, Error>
+    ensures shown { Soundly S.state conn.old conn.new ((register : List Kept) → AreEntries (tables S.state conn.old) register → IfOk result (λ rows. rows.items ≡ text_rows (option_map code_of_kind (kind_of (entries_in register) isin)))) }
+    ensures look { Looks S.state conn.old conn.new result }
+    ensures blame { Soundly S.state conn.old conn.new (FailsForCause S.state conn.old conn.new result) }
 {
     query(
         conn,
@@ -97,10 +95,10 @@ pub fn security<S: Alter>(conn: &mut Connection<S>, isin: Isin) -> Result<Vec<Ro
 }
 
 /// The first security, in order of its bytes.
-pub fn first_security<S: Alter>(conn: &mut Connection<S>) -> Result<Vec<Row>, Error>
-    ensures shown { Soundly S.Store conn.old conn.new ((register : List Kept) → AreEntries (tables S.Store conn.old) register → IfOk result (λ rows. (found : Option (List ℕ)) × (rows.items ≡ text_rows found) × IsSecurityAfter (entries_in register) Option.None found)) }
-    ensures look { Looks S.Store conn.old conn.new result }
-    ensures blame { Soundly S.Store conn.old conn.new (FailsForCause S.Store conn.old conn.new result) }
+pub fn first_security<S: Session>(conn: &mut S) -> Result<Vec<Row>, Error>
+    ensures shown { Soundly S.state conn.old conn.new ((register : List Kept) → AreEntries (tables S.state conn.old) register → IfOk result (λ rows. (found : Option (List ℕ)) × (rows.items ≡ text_rows found) × IsSecurityAfter (entries_in register) Option.None found)) }
+    ensures look { Looks S.state conn.old conn.new result }
+    ensures blame { Soundly S.state conn.old conn.new (FailsForCause S.state conn.old conn.new result) }
 {
     query(
         conn,
@@ -110,10 +108,10 @@ pub fn first_security<S: Alter>(conn: &mut Connection<S>) -> Result<Vec<Row>, Er
 }
 
 /// The first security above one, in order of their bytes.
-pub fn security_above<S: Alter>(conn: &mut Connection<S>, isin: Isin) -> Result<Vec<Row>, Error>
-    ensures shown { Soundly S.Store conn.old conn.new ((register : List Kept) → AreEntries (tables S.Store conn.old) register → IfOk result (λ rows. (found : Option (List ℕ)) × (rows.items ≡ text_rows found) × IsSecurityAfter (entries_in register) (Option.Some isin) found)) }
-    ensures look { Looks S.Store conn.old conn.new result }
-    ensures blame { Soundly S.Store conn.old conn.new (FailsForCause S.Store conn.old conn.new result) }
+pub fn security_above<S: Session>(conn: &mut S, isin: Isin) -> Result<Vec<Row>, Error>
+    ensures shown { Soundly S.state conn.old conn.new ((register : List Kept) → AreEntries (tables S.state conn.old) register → IfOk result (λ rows. (found : Option (List ℕ)) × (rows.items ≡ text_rows found) × IsSecurityAfter (entries_in register) (Option.Some isin) found)) }
+    ensures look { Looks S.state conn.old conn.new result }
+    ensures blame { Soundly S.state conn.old conn.new (FailsForCause S.state conn.old conn.new result) }
 {
     query(
         conn,
@@ -123,11 +121,11 @@ pub fn security_above<S: Alter>(conn: &mut Connection<S>, isin: Isin) -> Result<
 }
 
 /// The day of the last run.
-pub fn last_run_day<S: Alter>(conn: &mut Connection<S>) -> Result<Vec<Row>, Error>
-    ensures shown { Soundly S.Store conn.old conn.new ((register : List Kept) → AreEntries (tables S.Store conn.old) register → IfOk result (λ rows. (found : Option (List ℕ)) × (rows.items ≡ text_rows found) × (option_map number_of found ≡ last_run (entries_in register)))) }
-    ensures days { Soundly S.Store conn.old conn.new ((register : List Kept) → AreEntries (tables S.Store conn.old) register → AreWellFormed (entries_in register) → IfOk result (λ rows. (found : Option (List ℕ)) × (rows.items ≡ text_rows found) × IfSome found IsDay)) }
-    ensures look { Looks S.Store conn.old conn.new result }
-    ensures blame { Soundly S.Store conn.old conn.new (FailsForCause S.Store conn.old conn.new result) }
+pub fn last_run_day<S: Session>(conn: &mut S) -> Result<Vec<Row>, Error>
+    ensures shown { Soundly S.state conn.old conn.new ((register : List Kept) → AreEntries (tables S.state conn.old) register → IfOk result (λ rows. (found : Option (List ℕ)) × (rows.items ≡ text_rows found) × (option_map number_of found ≡ last_run (entries_in register)))) }
+    ensures days { Soundly S.state conn.old conn.new ((register : List Kept) → AreEntries (tables S.state conn.old) register → AreWellFormed (entries_in register) → IfOk result (λ rows. (found : Option (List ℕ)) × (rows.items ≡ text_rows found) × IfSome found IsDay)) }
+    ensures look { Looks S.state conn.old conn.new result }
+    ensures blame { Soundly S.state conn.old conn.new (FailsForCause S.state conn.old conn.new result) }
 {
     query(
         conn,
@@ -137,16 +135,16 @@ pub fn last_run_day<S: Alter>(conn: &mut Connection<S>) -> Result<Vec<Row>, Erro
 }
 
 /// The number of the first instruction above a number that is opposite to this one of this sender.
-pub fn opposite_above<S: Alter>(
-    conn: &mut Connection<S>,
+pub fn opposite_above<S: Session>(
+    conn: &mut S,
     sender: Bic,
     instruction: &Instruction,
     after: u64,
 ) -> Result<Vec<Row>, Error>
     requires { after < 2 ^ 63 }
-    ensures shown { Soundly S.Store conn.old conn.new ((register : List Kept) → AreEntries (tables S.Store conn.old) register → IfOk result (λ rows. (found : Option ℕ) × (rows.items ≡ number_rows found) × IsNextOpposite (entries_in register) (record { sender = sender; instruction = instruction.now }) after found)) }
-    ensures look { Looks S.Store conn.old conn.new result }
-    ensures blame { Soundly S.Store conn.old conn.new (FailsForCause S.Store conn.old conn.new result) }
+    ensures shown { Soundly S.state conn.old conn.new ((register : List Kept) → AreEntries (tables S.state conn.old) register → IfOk result (λ rows. (found : Option ℕ) × (rows.items ≡ number_rows found) × IsNextOpposite (entries_in register) (record { sender = sender; instruction = instruction.now }) after found)) }
+    ensures look { Looks S.state conn.old conn.new result }
+    ensures blame { Soundly S.state conn.old conn.new (FailsForCause S.state conn.old conn.new result) }
 {
     let asked = values_asked(&sender, instruction, after);
     query(

@@ -1,9 +1,7 @@
 -- What a register in SQL keeps true, and what contracts see of it.
 use Rattle.std.specs.Prelude.{◌≡◌, ◌≢◌, ◌≤◌, ℕ, [], true, false, None, IsTrue, refl}
 use Rattle.std.specs.Coded.{Coded, code_by, coded×, coded_ℕ}
-use Rattle.sqlite.specs.Held.{Held, held_code, state}
 use Rattle.sqlite.specs.State.{State, HasCleanDisk}
-use Rattle.sqlite_trees.specs.declared.store.Store.{Ghosts}
 use Rattle.desk_register.specs.declared.register.Stage.{Stage}
 use Rattle.desk_register.specs.contracts.register.Stage as stage
 use Rattle.desk_register.specs.declared.register.Stage.TheVariants.{Idle, Begun, Failed}
@@ -13,15 +11,15 @@ use Rattle.sql_tables.specs.Schema.{desk_schema}
 use Rattle.sql_register.specs.Content.{content_in}
 use Rattle.sql_register.specs.Holds.{IsDesk}
 
--- the connection, the stage, how many answers named the device, and the greatest number of entries
+-- the session, the stage, and the greatest number of entries
 pub record Kept (S : Type 0) : Type 0 where
-  pub connection : Held S
+  pub connection : S
   pub stage : Stage
   pub room : ℕ
 
 abbrev pub kept_code : {S : Type 0} → Coded S → Coded (Kept S)
-kept_code {S} store =
-    code_by (Held S × (Stage × ℕ)) (coded× (held_code store) (coded× stage.the_row.coded coded_ℕ)) (λ k. (k.connection, (k.stage, k.room)))
+kept_code {S} session =
+    code_by (S × (Stage × ℕ)) (coded× session (coded× stage.the_row.coded coded_ℕ)) (λ k. (k.connection, (k.stage, k.room)))
     (λ p. record { connection = p.0; stage = p.1.0; room = p.1.1 }) (λ _. refl)
 
 -- Where no wrong answer was taken as true and the connection is open: what was committed is a desk's tables, and what is
@@ -57,5 +55,5 @@ shown s stage room = record {
   device = record { failures = s.faults; is_honest = HasCleanDisk s; is_sure = IsTrue s.is_open };
 }
 
-abbrev pub view_of : {S : Type 0} → Ghosts S → Kept S → View
-view_of store k = shown (state store k.connection) k.stage k.room
+abbrev pub view_of : {S : Type 0} → (S → State) → Kept S → View
+view_of state k = shown (state k.connection) k.stage k.room

@@ -21,8 +21,9 @@ use desk_msg::CancelOrder;
 use desk_rules::{Entry, Reply, Sender, well_formed};
 use sql_entries::{add_entry, entry_count, number_of};
 use sql_rows::{AmountKey, add_standing, ask, put, take};
+use sql_tables::session::Session;
 use sql_tables::values::CORRUPT;
-use sqlite::{Alter, Connection, Error};
+use sqlite::Error;
 
 /// An entry is well formed: whoever sends one has a name.
 fn formed(entry: &Entry)
@@ -57,15 +58,15 @@ fn number_after(count: u64) -> Result<u64, Error>
 }
 
 /// Adds the row of an entry with its reply, and gives its number.
-fn add_row<S: Alter>(conn: &mut Connection<S>, entry: &Entry, reply: &Reply) -> Result<u64, Error>
-    ensures added { Soundly S.Store conn.old conn.new ((register : List Kept) → AreEntries (tables S.Store conn.old) register → IfOk result (λ number. (number ≡ length register + 1) × EntryAdded (tables S.Store conn.old) (tables S.Store conn.new) register entry.now reply.now)) }
+fn add_row<S: Session>(conn: &mut S, entry: &Entry, reply: &Reply) -> Result<u64, Error>
+    ensures added { Soundly S.state conn.old conn.new ((register : List Kept) → AreEntries (tables S.state conn.old) register → IfOk result (λ number. (number ≡ length register + 1) × EntryAdded (tables S.state conn.old) (tables S.state conn.new) register entry.now reply.now)) }
     ensures within { IfOk result (λ number. number < 1_000_000_000) }
     ensures small { IfOk result (λ number. number < 2 ^ 63) }
     ensures formed { IsWellFormed entry.now }
     ensures short { HasShortNumbers reply.now }
-    ensures write { Writes S.Store conn.old conn.new result }
-    ensures blame { Soundly S.Store conn.old conn.new ((register : List Kept) → AreEntries (tables S.Store conn.old) register → length register + 1 < 1_000_000_000 → AreWellFormed (entries_in register)
-        → number_of_key (entries_in register) (sender_of entry.now) (reference_of entry.now) ≡ None → FailsForCause S.Store conn.old conn.new result) }
+    ensures write { Writes S.state conn.old conn.new result }
+    ensures blame { Soundly S.state conn.old conn.new ((register : List Kept) → AreEntries (tables S.state conn.old) register → length register + 1 < 1_000_000_000 → AreWellFormed (entries_in register)
+        → number_of_key (entries_in register) (sender_of entry.now) (reference_of entry.now) ≡ None → FailsForCause S.state conn.old conn.new result) }
 {
     formed(entry);
     short(reply);
@@ -76,16 +77,16 @@ fn add_row<S: Alter>(conn: &mut Connection<S>, entry: &Entry, reply: &Reply) -> 
 }
 
 /// Posts an amount under a key. Where a debit finds less, the tables have broken their word.
-fn post<S: Alter>(
-    conn: &mut Connection<S>,
+fn post<S: Session>(
+    conn: &mut S,
     key: &AmountKey,
     amount: u64,
     direction: Direction,
 ) -> Result<(), Error>
     requires small { amount < 2 ^ 63 }
-    ensures changed { Soundly S.Store conn.old conn.new (AreAmounts (tables S.Store conn.old) → OnOk result (Posts direction (tables S.Store conn.old) (tables S.Store conn.new) key.now amount)) }
-    ensures write { Writes S.Store conn.old conn.new result }
-    ensures blame { Soundly S.Store conn.old conn.new (AreAmounts (tables S.Store conn.old) → CanPost direction (tables S.Store conn.old) key.now amount → FailsForCause S.Store conn.old conn.new result) }
+    ensures changed { Soundly S.state conn.old conn.new (AreAmounts (tables S.state conn.old) → OnOk result (Posts direction (tables S.state conn.old) (tables S.state conn.new) key.now amount)) }
+    ensures write { Writes S.state conn.old conn.new result }
+    ensures blame { Soundly S.state conn.old conn.new (AreAmounts (tables S.state conn.old) → CanPost direction (tables S.state conn.old) key.now amount → FailsForCause S.state conn.old conn.new result) }
 {
     match direction {
         Direction::Credit => put(conn, key, amount),
@@ -100,14 +101,10 @@ fn post<S: Alter>(
 }
 
 /// Adds an entry of the operator's, with what it posts.
-fn append_command<S: Alter>(
-    conn: &mut Connection<S>,
-    entry: &Entry,
-    reply: &Reply,
-) -> Result<(), Error>
-    ensures changed { Soundly S.Store conn.old conn.new (IsDesk (tables S.Store conn.old) → sender_of entry.now ≡ Operator → (room : ℕ) → CanAppend room entry.now reply.now (content_in (tables S.Store conn.old)) → OnOk result (Becomes (tables S.Store conn.new) (appended entry.now reply.now (content_in (tables S.Store conn.old))))) }
-    ensures write { Writes S.Store conn.old conn.new result }
-    ensures blame { Soundly S.Store conn.old conn.new (IsDesk (tables S.Store conn.old) → (room : ℕ) → room < 1_000_000_000 → CanAppend room entry.now reply.now (content_in (tables S.Store conn.old)) → FailsForCause S.Store conn.old conn.new result) }
+fn append_command<S: Session>(conn: &mut S, entry: &Entry, reply: &Reply) -> Result<(), Error>
+    ensures changed { Soundly S.state conn.old conn.new (IsDesk (tables S.state conn.old) → sender_of entry.now ≡ Operator → (room : ℕ) → CanAppend room entry.now reply.now (content_in (tables S.state conn.old)) → OnOk result (Becomes (tables S.state conn.new) (appended entry.now reply.now (content_in (tables S.state conn.old))))) }
+    ensures write { Writes S.state conn.old conn.new result }
+    ensures blame { Soundly S.state conn.old conn.new (IsDesk (tables S.state conn.old) → (room : ℕ) → room < 1_000_000_000 → CanAppend room entry.now reply.now (content_in (tables S.state conn.old)) → FailsForCause S.state conn.old conn.new result) }
 {
     add_row(conn, entry, reply)?;
     let Some(posting) = posting_of(entry) else {
@@ -119,15 +116,15 @@ fn append_command<S: Alter>(
 
 /// Adds a cancellation, and notes the request at the instruction that it names: of those that can be added, each names
 /// one, by its sender and its reference.
-fn append_cancel<S: Alter>(
-    conn: &mut Connection<S>,
+fn append_cancel<S: Session>(
+    conn: &mut S,
     sender: Bic,
     order: &CancelOrder,
     reply: &Reply,
 ) -> Result<(), Error>
-    ensures changed { Soundly S.Store conn.old conn.new (IsDesk (tables S.Store conn.old) → (room : ℕ) → CanAppend room (Cancel sender order.now) reply.now (content_in (tables S.Store conn.old)) → OnOk result (Becomes (tables S.Store conn.new) (appended (Cancel sender order.now) reply.now (content_in (tables S.Store conn.old))))) }
-    ensures write { Writes S.Store conn.old conn.new result }
-    ensures blame { Soundly S.Store conn.old conn.new (IsDesk (tables S.Store conn.old) → (room : ℕ) → room < 1_000_000_000 → CanAppend room (Cancel sender order.now) reply.now (content_in (tables S.Store conn.old)) → FailsForCause S.Store conn.old conn.new result) }
+    ensures changed { Soundly S.state conn.old conn.new (IsDesk (tables S.state conn.old) → (room : ℕ) → CanAppend room (Cancel sender order.now) reply.now (content_in (tables S.state conn.old)) → OnOk result (Becomes (tables S.state conn.new) (appended (Cancel sender order.now) reply.now (content_in (tables S.state conn.old))))) }
+    ensures write { Writes S.state conn.old conn.new result }
+    ensures blame { Soundly S.state conn.old conn.new (IsDesk (tables S.state conn.old) → (room : ℕ) → room < 1_000_000_000 → CanAppend room (Cancel sender order.now) reply.now (content_in (tables S.state conn.old)) → FailsForCause S.state conn.old conn.new result) }
 {
     let Some(number) = number_of(conn, Sender::Participant(sender), order.previous)? else {
         return Err(CORRUPT);
@@ -142,10 +139,10 @@ fn append_cancel<S: Alter>(
 }
 
 /// Adds an entry with its reply, and what it moves, asks for and waits for.
-pub fn append<S: Alter>(conn: &mut Connection<S>, entry: &Entry, reply: &Reply) -> Result<(), Error>
-    ensures changed { Soundly S.Store conn.old conn.new (IsDesk (tables S.Store conn.old) → (room : ℕ) → CanAppend room entry.now reply.now (content_in (tables S.Store conn.old)) → OnOk result (Becomes (tables S.Store conn.new) (appended entry.now reply.now (content_in (tables S.Store conn.old))))) }
-    ensures write { Writes S.Store conn.old conn.new result }
-    ensures blame { Soundly S.Store conn.old conn.new (IsDesk (tables S.Store conn.old) → (room : ℕ) → room < 1_000_000_000 → CanAppend room entry.now reply.now (content_in (tables S.Store conn.old)) → FailsForCause S.Store conn.old conn.new result) }
+pub fn append<S: Session>(conn: &mut S, entry: &Entry, reply: &Reply) -> Result<(), Error>
+    ensures changed { Soundly S.state conn.old conn.new (IsDesk (tables S.state conn.old) → (room : ℕ) → CanAppend room entry.now reply.now (content_in (tables S.state conn.old)) → OnOk result (Becomes (tables S.state conn.new) (appended entry.now reply.now (content_in (tables S.state conn.old))))) }
+    ensures write { Writes S.state conn.old conn.new result }
+    ensures blame { Soundly S.state conn.old conn.new (IsDesk (tables S.state conn.old) → (room : ℕ) → room < 1_000_000_000 → CanAppend room entry.now reply.now (content_in (tables S.state conn.old)) → FailsForCause S.state conn.old conn.new result) }
 {
     match entry {
         Entry::Instruct { .. } => {

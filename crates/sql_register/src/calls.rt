@@ -17,7 +17,7 @@ use sql_entries::{
 };
 use sql_rows::{AmountKey, add_sent, amount, confirmation_of, sent_at, sent_count, standing};
 use sql_tables::control;
-use sqlite::Alter;
+use sql_tables::session::Session;
 use std::alloc::Global;
 
 /// A message is one that the desk may send.
@@ -28,11 +28,11 @@ fn sendable(message: &Sent)
     let _mt = message.mt;
 }
 
-impl<S: Alter> Register for SqlRegister<S> {
+impl<S: Session> Register for SqlRegister<S> {
     ghost use Rattle.std.specs.Prelude.{false};
     ghost use Rattle.sql_register.specs.Kept.{view_of};
 
-    ghost view = { λ r. view_of S.Store r };
+    ghost view = { λ r. view_of S.state r };
 
     ghost in_memory = { false };
 
@@ -336,7 +336,7 @@ impl<S: Alter> Register for SqlRegister<S> {
     }
 }
 
-impl<S: Alter> ToldRegister for SqlRegister<S> {
+impl<S: Session> ToldRegister for SqlRegister<S> {
     fn wait_for(
         &mut self,
         _alloc: Global,

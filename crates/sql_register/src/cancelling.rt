@@ -8,13 +8,14 @@ ghost use Rattle.sql_tables.specs.Calls.{FailsForCause, Soundly, Writes, tables}
 use crate::numbers::checked;
 use desk_rules::State;
 use sql_rows::set_state;
-use sqlite::{Alter, Connection, Error};
+use sql_tables::session::Session;
+use sqlite::Error;
 
 /// Lets an unmatched instruction stand cancelled.
-pub fn cancel<S: Alter>(conn: &mut Connection<S>, number: u64) -> Result<(), Error>
-    ensures changed { Soundly S.Store conn.old conn.new (IsDesk (tables S.Store conn.old) → CanCancel (content_in (tables S.Store conn.old)) number → OnOk result (Becomes (tables S.Store conn.new) (cancelled number (content_in (tables S.Store conn.old))))) }
-    ensures write { Writes S.Store conn.old conn.new result }
-    ensures blame { Soundly S.Store conn.old conn.new (IsDesk (tables S.Store conn.old) → CanCancel (content_in (tables S.Store conn.old)) number → FailsForCause S.Store conn.old conn.new result) }
+pub fn cancel<S: Session>(conn: &mut S, number: u64) -> Result<(), Error>
+    ensures changed { Soundly S.state conn.old conn.new (IsDesk (tables S.state conn.old) → CanCancel (content_in (tables S.state conn.old)) number → OnOk result (Becomes (tables S.state conn.new) (cancelled number (content_in (tables S.state conn.old))))) }
+    ensures write { Writes S.state conn.old conn.new result }
+    ensures blame { Soundly S.state conn.old conn.new (IsDesk (tables S.state conn.old) → CanCancel (content_in (tables S.state conn.old)) number → FailsForCause S.state conn.old conn.new result) }
 {
     let number = checked(number)?;
     set_state(conn, number, State::Cancelled)

@@ -15,15 +15,16 @@ use desk_register::Holding;
 use desk_rules::{Entry, Instructed};
 use sql_entries::entry_at;
 use sql_rows::{AmountKey, amount, next_holding};
+use sql_tables::session::Session;
 use sql_tables::values::CORRUPT;
-use sqlite::{Alter, Connection, Error};
+use sqlite::Error;
 use std::alloc::Global;
 
 /// What is recorded under a key; 0 where nothing is.
-pub fn recorded<S: Alter>(conn: &mut Connection<S>, key: &AmountKey) -> Result<u64, Error>
-    ensures value { Soundly S.Store conn.old conn.new (AreAmounts (tables S.Store conn.old) → IfOk result (λ r. r ≡ had (tables S.Store conn.old) key.now)) }
-    ensures look { Looks S.Store conn.old conn.new result }
-    ensures blame { Soundly S.Store conn.old conn.new (AreAmounts (tables S.Store conn.old) → FailsForCause S.Store conn.old conn.new result) }
+pub fn recorded<S: Session>(conn: &mut S, key: &AmountKey) -> Result<u64, Error>
+    ensures value { Soundly S.state conn.old conn.new (AreAmounts (tables S.state conn.old) → IfOk result (λ r. r ≡ had (tables S.state conn.old) key.now)) }
+    ensures look { Looks S.state conn.old conn.new result }
+    ensures blame { Soundly S.state conn.old conn.new (AreAmounts (tables S.state conn.old) → FailsForCause S.state conn.old conn.new result) }
 {
     Ok(amount(conn, key)?.unwrap_or(0))
 }
@@ -38,14 +39,14 @@ fn holding_of(found: Option<(Isin, u64)>) -> Option<Holding>
 }
 
 /// The first security, in order of its bytes, after one, of which an account holds some, and how much.
-pub fn holding_after<S: Alter>(
-    conn: &mut Connection<S>,
+pub fn holding_after<S: Session>(
+    conn: &mut S,
     account: AccountId,
     isin: Option<Isin>,
 ) -> Result<Option<Holding>, Error>
-    ensures value { Soundly S.Store conn.old conn.new (IsDesk (tables S.Store conn.old) → IfOk result (λ r. IsHoldingAfter (content_in (tables S.Store conn.old)) account isin r)) }
-    ensures look { Looks S.Store conn.old conn.new result }
-    ensures blame { Soundly S.Store conn.old conn.new (IsDesk (tables S.Store conn.old) → FailsForCause S.Store conn.old conn.new result) }
+    ensures value { Soundly S.state conn.old conn.new (IsDesk (tables S.state conn.old) → IfOk result (λ r. IsHoldingAfter (content_in (tables S.state conn.old)) account isin r)) }
+    ensures look { Looks S.state conn.old conn.new result }
+    ensures blame { Soundly S.state conn.old conn.new (IsDesk (tables S.state conn.old) → FailsForCause S.state conn.old conn.new result) }
 {
     let found = next_holding(conn, account, isin)?;
     Ok(holding_of(found))
@@ -62,14 +63,14 @@ fn instructed_by(entry: Option<Entry>) -> Result<Instructed, Error>
 }
 
 /// The instruction of this number, where the entry of it is one.
-pub fn instruction<S: Alter>(
-    conn: &mut Connection<S>,
+pub fn instruction<S: Session>(
+    conn: &mut S,
     alloc: Global,
     number: u64,
 ) -> Result<Instructed, Error>
-    ensures value { Soundly S.Store conn.old conn.new (IsDesk (tables S.Store conn.old) → IfOk result (λ i. instruction_at (history_of (content_in (tables S.Store conn.old))) number ≡ Some i)) }
-    ensures look { Looks S.Store conn.old conn.new result }
-    ensures blame { Soundly S.Store conn.old conn.new (IsDesk (tables S.Store conn.old) → (i : Instructed) → instruction_at (history_of (content_in (tables S.Store conn.old))) number ≡ Some i → FailsForCause S.Store conn.old conn.new result) }
+    ensures value { Soundly S.state conn.old conn.new (IsDesk (tables S.state conn.old) → IfOk result (λ i. instruction_at (history_of (content_in (tables S.state conn.old))) number ≡ Some i)) }
+    ensures look { Looks S.state conn.old conn.new result }
+    ensures blame { Soundly S.state conn.old conn.new (IsDesk (tables S.state conn.old) → (i : Instructed) → instruction_at (history_of (content_in (tables S.state conn.old))) number ≡ Some i → FailsForCause S.state conn.old conn.new result) }
 {
     let found = entry_at(conn, alloc, number)?;
     instructed_by(found)

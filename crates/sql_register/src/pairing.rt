@@ -7,19 +7,20 @@ ghost use Rattle.sql_tables.specs.Calls.{FailsForCause, Soundly, Writes, tables}
 use crate::numbers::in_order;
 use desk_rules::State;
 use sql_rows::set_standing;
-use sqlite::{Alter, Connection, Error};
+use sql_tables::session::Session;
+use sqlite::Error;
 
 /// Lets two instructions stand so, as each other's mates. Numbers in no order are told as tables that have broken their word.
-pub fn stand_both<S: Alter>(
-    conn: &mut Connection<S>,
+pub fn stand_both<S: Session>(
+    conn: &mut S,
     earlier: u64,
     later: u64,
     new_state: State,
 ) -> Result<(), Error>
     requires instruction { new_state ≢ State.NoInstruction }
-    ensures changed { Soundly S.Store conn.old conn.new (AreStandings (tables S.Store conn.old) → OnOk result (StandBoth (tables S.Store conn.old) (tables S.Store conn.new) earlier later new_state)) }
-    ensures write { Writes S.Store conn.old conn.new result }
-    ensures blame { Soundly S.Store conn.old conn.new (StandAlready (tables S.Store conn.old) earlier later → 0 < earlier → earlier < later → later < 1_000_000_000 → FailsForCause S.Store conn.old conn.new result) }
+    ensures changed { Soundly S.state conn.old conn.new (AreStandings (tables S.state conn.old) → OnOk result (StandBoth (tables S.state conn.old) (tables S.state conn.new) earlier later new_state)) }
+    ensures write { Writes S.state conn.old conn.new result }
+    ensures blame { Soundly S.state conn.old conn.new (StandAlready (tables S.state conn.old) earlier later → 0 < earlier → earlier < later → later < 1_000_000_000 → FailsForCause S.state conn.old conn.new result) }
 {
     in_order(earlier, later)?;
     set_standing(conn, earlier, later, new_state)?;

@@ -17,8 +17,9 @@ use desk_msg::Instruction;
 use desk_rules::{Instructed, MOST_ENTRIES, Place, Standing, State};
 use sql_entries::next_opposite;
 use sql_rows::{next_matched, standing};
+use sql_tables::session::Session;
 use sql_tables::values::CORRUPT;
-use sqlite::{Alter, Connection, Error};
+use sqlite::Error;
 use std::alloc::Global;
 
 /// The number that was found above another, where a register can have an entry of it; else the tables have broken their word.
@@ -45,17 +46,17 @@ fn is_unmatched(state: State) -> bool
 }
 
 /// The least number above one of an instruction that is opposite to one of this sender, and whether it is unmatched.
-fn candidate_above<S: Alter>(
-    conn: &mut Connection<S>,
+fn candidate_above<S: Session>(
+    conn: &mut S,
     sender: Bic,
     instruction: &Instruction,
     after: u64,
 ) -> Result<Option<(u64, bool)>, Error>
     requires { after < 2 ^ 63 }
-    ensures value { Soundly S.Store conn.old conn.new (IsDesk (tables S.Store conn.old) → IfOk result (IsCandidateAbove (content_in (tables S.Store conn.old)) (record { sender = sender; instruction = instruction.now }) after)) }
+    ensures value { Soundly S.state conn.old conn.new (IsDesk (tables S.state conn.old) → IfOk result (IsCandidateAbove (content_in (tables S.state conn.old)) (record { sender = sender; instruction = instruction.now }) after)) }
     ensures within { IfOk result (λ r. IfSome r (λ found. (after < found.0) × (found.0 < 1_000_000_000))) }
-    ensures look { Looks S.Store conn.old conn.new result }
-    ensures blame { Soundly S.Store conn.old conn.new (IsDesk (tables S.Store conn.old) → FailsForCause S.Store conn.old conn.new result) }
+    ensures look { Looks S.state conn.old conn.new result }
+    ensures blame { Soundly S.state conn.old conn.new (IsDesk (tables S.state conn.old) → FailsForCause S.state conn.old conn.new result) }
 {
     let found = next_opposite(conn, sender, instruction, after)?;
     let Some(number) = above(found, after)? else {
@@ -66,14 +67,14 @@ fn candidate_above<S: Alter>(
 }
 
 /// The least number of an unmatched instruction that is opposite to one of this sender.
-pub fn first_opposite<S: Alter>(
-    conn: &mut Connection<S>,
+pub fn first_opposite<S: Session>(
+    conn: &mut S,
     sender: Bic,
     instruction: &Instruction,
 ) -> Result<Option<u64>, Error>
-    ensures value { Soundly S.Store conn.old conn.new (IsDesk (tables S.Store conn.old) → IfOk result (λ r. IsFirstOpposite (content_in (tables S.Store conn.old)) (record { sender = sender; instruction = instruction.now }) r)) }
-    ensures look { Looks S.Store conn.old conn.new result }
-    ensures blame { Soundly S.Store conn.old conn.new (IsDesk (tables S.Store conn.old) → FailsForCause S.Store conn.old conn.new result) }
+    ensures value { Soundly S.state conn.old conn.new (IsDesk (tables S.state conn.old) → IfOk result (λ r. IsFirstOpposite (content_in (tables S.state conn.old)) (record { sender = sender; instruction = instruction.now }) r)) }
+    ensures look { Looks S.state conn.old conn.new result }
+    ensures blame { Soundly S.state conn.old conn.new (IsDesk (tables S.state conn.old) → FailsForCause S.state conn.old conn.new result) }
 {
     let mut after = 0;
     while let Some((number, unmatched)) = candidate_above(conn, sender, instruction, after)? {
@@ -113,18 +114,18 @@ fn place_due(
 }
 
 /// The least number above one whose instruction is matched, and the place of its pair where that is due by a day and past a place.
-fn pair_above<S: Alter>(
-    conn: &mut Connection<S>,
+fn pair_above<S: Session>(
+    conn: &mut S,
     alloc: Global,
     after: u64,
     day: Day,
     place: Option<Place>,
 ) -> Result<Option<(u64, Option<Place>)>, Error>
     requires { after < 2 ^ 63 }
-    ensures value { Soundly S.Store conn.old conn.new (IsDesk (tables S.Store conn.old) → IfOk result (IsPairAbove (tables S.Store conn.old) (number_of day) place after)) }
+    ensures value { Soundly S.state conn.old conn.new (IsDesk (tables S.state conn.old) → IfOk result (IsPairAbove (tables S.state conn.old) (number_of day) place after)) }
     ensures within { IfOk result (λ r. IfSome r (λ found. (after < found.0) × (found.0 < 1_000_000_000))) }
-    ensures look { Looks S.Store conn.old conn.new result }
-    ensures blame { Soundly S.Store conn.old conn.new (IsDesk (tables S.Store conn.old) → FailsForCause S.Store conn.old conn.new result) }
+    ensures look { Looks S.state conn.old conn.new result }
+    ensures blame { Soundly S.state conn.old conn.new (IsDesk (tables S.state conn.old) → FailsForCause S.state conn.old conn.new result) }
 {
     let found = next_matched(conn, after)?;
     let Some(number) = above(found, after)? else {
@@ -153,15 +154,15 @@ fn sooner(first: Option<Place>, found: Option<Place>) -> Option<Place>
 }
 
 /// The first matched pair due by a day, after a place.
-pub fn due_pair_after<S: Alter>(
-    conn: &mut Connection<S>,
+pub fn due_pair_after<S: Session>(
+    conn: &mut S,
     alloc: Global,
     day: Day,
     place: Option<Place>,
 ) -> Result<Option<Place>, Error>
-    ensures value { Soundly S.Store conn.old conn.new (IsDesk (tables S.Store conn.old) → IfOk result (λ r. IsDuePairAfter (content_in (tables S.Store conn.old)) (number_of day) place r)) }
-    ensures look { Looks S.Store conn.old conn.new result }
-    ensures blame { Soundly S.Store conn.old conn.new (IsDesk (tables S.Store conn.old) → FailsForCause S.Store conn.old conn.new result) }
+    ensures value { Soundly S.state conn.old conn.new (IsDesk (tables S.state conn.old) → IfOk result (λ r. IsDuePairAfter (content_in (tables S.state conn.old)) (number_of day) place r)) }
+    ensures look { Looks S.state conn.old conn.new result }
+    ensures blame { Soundly S.state conn.old conn.new (IsDesk (tables S.state conn.old) → FailsForCause S.state conn.old conn.new result) }
 {
     let mut first = None;
     let mut after = 0;

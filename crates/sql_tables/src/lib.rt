@@ -2,9 +2,9 @@
 //! transaction, what a row that is shown holds, and whether it says what memory says.
 //!
 //! `statement.rt` runs a text that changes rows of a table, or reads some, and `rows.rt` reads what is shown; every call on
-//! the tables is made of these and of `control.rt`. Begin with `tables.rt`, the tables, and specs/Ends.antt, how a
-//! call ends. Proofs on the statements of one table, whichever it is, cite proofs/QueryLemmas.antt, what queries show,
-//! EditLemmas.antt, what edits do, and ValueLemmas.antt, how values compare.
+//! the tables is made of these and of `control.rt`, over any `Session` (`session.rt`), as the library's connection is one.
+//! Begin with `tables.rt`, the tables, and specs/Ends.antt, how a call ends. Proofs on the statements of one table, whichever it
+//! is, cite proofs/QueryLemmas.antt, what queries show, EditLemmas.antt, what edits do, and ValueLemmas.antt, how values compare.
 //!
 //! The crate of a table compares it with a register in memory too (`compared.rt` there), by what stands here. `AuditFault`
 //! in `fault.rt` tells why a comparison gave no answer, and specs/Audits.antt how one ends, for the tables and for the
@@ -19,6 +19,7 @@ pub mod control;
 pub mod fault;
 pub mod making;
 pub mod rows;
+pub mod session;
 pub mod statement;
 pub mod tables;
 pub mod values;

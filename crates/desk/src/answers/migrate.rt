@@ -1,8 +1,7 @@
 //! `desk migrate`.
 ghost use Rattle.std.specs.Prelude.{◌≡◌, true, false, length, IfErr, IfOk, IfSome, IsOkAnd, IsSomeAnd, OnErr, OnOk};
 ghost use Rattle.std.specs.Io.KnownBytes.{Appends};
-ghost use Rattle.sqlite.specs.Files.{over_files};
-ghost use Rattle.sqlite.specs.Held.{state};
+ghost use Rattle.sqlite.specs.Files.{file_state};
 ghost use Rattle.sqlite_wal.specs.Files.{image_at};
 ghost use Rattle.desk_rules.specs.Verdict.{WasAccepted};
 ghost use Rattle.desk_old.specs.Old.{AreHistory};
@@ -26,8 +25,8 @@ use desk_register::{Fault, Register};
 use desk_rules::{Entry, MOST_ENTRIES};
 use desk_streams::Sink;
 use memory_register::ListRegister;
-use sql_register::SqlRegister;
-use sqlite::{Alter, Connection, FileFrom, FileStore, Files, Start};
+use sql_register::{Session, SqlRegister};
+use sqlite::{Connection, FileFrom, FileStore, Files, Start};
 use sqlite_disk::Disk;
 use std::alloc::Global;
 use std::path::Path;
@@ -318,7 +317,7 @@ fn fill_and_close<D: Disk + Drop>(
     both: FileRegister<D>,
     entries: &[Entry],
 ) -> Result<Made<D>, Failure>
-    requires ready { IsReadyFor MOST_ENTRIES (view_of_both over_files both) }
+    requires ready { IsReadyFor MOST_ENTRIES (view_of_both file_state both) }
     requires accepted { AreHistory entries.now }
     ensures holds { IfOk result (λ made. HoldHistory made.files entries.now) }
     ensures failure { IfErr result IsOpeningFailure }
@@ -361,14 +360,14 @@ fn close_made<D: Disk + Drop>(
 }
 
 /// Puts a history into the tables of a desk that holds nothing, whose connection is given back.
-fn fill<S: Alter + Drop>(
+fn fill<S: Session + Drop>(
     alloc: Global,
     both: MirroredRegister<ListRegister, SqlRegister<S>>,
     entries: &[Entry],
-) -> (Result<(), Failure>, Connection<S>)
-    requires ready { IsReadyFor MOST_ENTRIES (view_of_both S.Store both) }
+) -> (Result<(), Failure>, S)
+    requires ready { IsReadyFor MOST_ENTRIES (view_of_both S.state both) }
     requires accepted { AreHistory entries.now }
-    ensures says { OnOk result.0 (SayHistory (state S.Store result.1) entries.now) }
+    ensures says { OnOk result.0 (SayHistory (S.state result.1) entries.now) }
     ensures failure { IfErr result.0 IsOpeningFailure }
 {
     let mut both = both;

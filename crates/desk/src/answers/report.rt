@@ -11,7 +11,6 @@ ghost use Rattle.memory_register.specs.ListsView.{view_of_lists};
 ghost use Rattle.desk_file.specs.Opened.{IsReadyFor, view_of_both};
 ghost use Rattle.desk_register.specs.View.{IfTrusted, IsLater, IsRead};
 ghost use Rattle.desk_register.specs.declared.register.Stage.TheVariants.{Idle};
-ghost use Rattle.sqlite.specs.Held.{state};
 ghost use Rattle.sqlite.specs.State.{HasCleanDisk};
 ghost use Rattle.desk.specs.Left.{TablesSay};
 ghost use Rattle.desk.specs.PlayAnswer.{KeptBy};
@@ -28,8 +27,7 @@ use desk_report::{Format, Parts, write_report};
 use desk_rules::MOST_ENTRIES;
 use desk_streams::{Sink, Source};
 use memory_register::ListRegister;
-use sql_register::SqlRegister;
-use sqlite::{Alter, Connection};
+use sql_register::{Session, SqlRegister};
 use std::alloc::Global;
 use std::io;
 
@@ -84,18 +82,18 @@ fn failure_of(fault: PlayFault) -> Failure
 }
 
 /// Prints what is to be shown of tables with a register in memory beside them, of which the connection is given back.
-pub fn show_on_both<S: Alter + Drop, W: Sink>(
+pub fn show_on_both<S: Session + Drop, W: Sink>(
     alloc: Global,
     both: MirroredRegister<ListRegister, SqlRegister<S>>,
     shown: Shown,
     format: Format,
     writer: &mut W,
-) -> (io::Result<Status>, Connection<S>)
-    requires { IsReadyFor MOST_ENTRIES (view_of_both S.Store both) }
-    ensures told { (books : Books) → KeptBy (view_of_both S.Store both) books
+) -> (io::Result<Status>, S)
+    requires { IsReadyFor MOST_ENTRIES (view_of_both S.state both) }
+    ensures told { (books : Books) → KeptBy (view_of_both S.state both) books
         → IfOk result.0 (λ status. IsOverviewFrom format shown books status (Appends (W.contents writer.old) (W.contents writer.new))) }
-    ensures left { (books : Books) → KeptBy (view_of_both S.Store both) books → TablesSay (state S.Store result.1) books }
-    ensures clean { HasCleanDisk (state S.Store result.1) → HasCleanDisk (state S.Store both.tables.connection) }
+    ensures left { (books : Books) → KeptBy (view_of_both S.state both) books → TablesSay (S.state result.1) books }
+    ensures clean { HasCleanDisk (S.state result.1) → HasCleanDisk (S.state both.tables.connection) }
     ensures failed { OnErr result.0 (W.may_fail ≡ true) }
 {
     let mut both = both;

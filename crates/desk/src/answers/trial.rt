@@ -1,7 +1,6 @@
 //! `desk play --dry-run` and `desk check --db`.
 ghost use Rattle.std.specs.Prelude.{◌≡◌, true, false, IfOk, OnErr};
 ghost use Rattle.std.specs.Io.KnownBytes.{Appends};
-ghost use Rattle.sqlite.specs.Held.{state};
 ghost use Rattle.sqlite.specs.State.{HasCleanDisk};
 ghost use Rattle.desk_engine.specs.Ready.{IsReady};
 ghost use Rattle.desk_file.specs.Opened.{IsReadyFor, view_of_both};
@@ -20,8 +19,7 @@ use desk_file::MirroredRegister;
 use desk_report::Format;
 use desk_streams::{Sink, Source};
 use memory_register::ListRegister;
-use sql_register::SqlRegister;
-use sqlite::{Alter, Connection};
+use sql_register::{Session, SqlRegister};
 use std::alloc::Global;
 use std::io;
 
@@ -36,18 +34,18 @@ pub enum Trial {
 
 /// Plays a script on a desk in memory that holds what tables with such a register beside them do, and tells of it. The connection to
 /// the tables, which stay as they are, is given back.
-pub fn try_on_both<S: Alter + Drop, R: Source, W: Sink>(
+pub fn try_on_both<S: Session + Drop, R: Source, W: Sink>(
     alloc: Global,
     both: MirroredRegister<ListRegister, SqlRegister<S>>,
     trial: Trial,
     reader: &mut R,
     writer: &mut W,
-) -> (io::Result<Status>, Connection<S>)
-    requires { IsReadyFor MOST_ENTRIES (view_of_both S.Store both) }
-    ensures told { (books : Books) → KeptBy (view_of_both S.Store both) books
+) -> (io::Result<Status>, S)
+    requires { IsReadyFor MOST_ENTRIES (view_of_both S.state both) }
+    ensures told { (books : Books) → KeptBy (view_of_both S.state both) books
         → IfOk result.0 (λ status. IsTrialFrom trial books (R.remaining reader.old) (reader.new ≡ reader.old) R.may_fail status (Appends (W.contents writer.old) (W.contents writer.new))) }
-    ensures left { (books : Books) → KeptBy (view_of_both S.Store both) books → TablesSay (state S.Store result.1) books }
-    ensures clean { HasCleanDisk (state S.Store result.1) → HasCleanDisk (state S.Store both.tables.connection) }
+    ensures left { (books : Books) → KeptBy (view_of_both S.state both) books → TablesSay (S.state result.1) books }
+    ensures clean { HasCleanDisk (S.state result.1) → HasCleanDisk (S.state both.tables.connection) }
     ensures failed { OnErr result.0 (W.may_fail ≡ true) }
 {
     let (memory, conn) = parts_of(both);

@@ -11,8 +11,9 @@ use sql_rows::{
     AmountKey, amount, confirmation_of, held, held_cash, next_holding, next_matched, sent_at,
     sent_count, standing,
 };
+use sql_tables::session::Session;
 use sql_tables::version::version;
-use sqlite::{Alter, Connection, Error};
+use sqlite::Error;
 use std::alloc::Global;
 
 /// Of the amounts of `sql_rows`: `amount` of a key of each kind, and the others.
@@ -134,7 +135,7 @@ fn counted(answer: Result<u64, Error>) -> Result<bool, Error> {
 }
 
 impl AmountCall {
-    fn answer<S: Alter>(self, conn: &mut Connection<S>, keys: &Keys) -> Result<bool, Error> {
+    fn answer<S: Session>(self, conn: &mut S, keys: &Keys) -> Result<bool, Error> {
         let key = match self {
             AmountCall::Balance => AmountKey::Balance(keys.account, keys.isin),
             AmountCall::Cash => AmountKey::Cash(keys.bic, Ccy::Eur),
@@ -149,7 +150,7 @@ impl AmountCall {
 }
 
 impl EntryCall {
-    fn answer<S: Alter>(self, conn: &mut Connection<S>, alloc: Global) -> Result<bool, Error> {
+    fn answer<S: Session>(self, conn: &mut S, alloc: Global) -> Result<bool, Error> {
         match self {
             EntryCall::EntryCount => counted(entry_count(conn)),
             EntryCall::EntryAt => found(entry_at(conn, alloc, 1)),
@@ -159,7 +160,7 @@ impl EntryCall {
 }
 
 impl FindingCall {
-    fn answer<S: Alter>(self, conn: &mut Connection<S>, keys: &Keys) -> Result<bool, Error> {
+    fn answer<S: Session>(self, conn: &mut S, keys: &Keys) -> Result<bool, Error> {
         let participant = Sender::Participant(keys.bic);
         match self {
             FindingCall::NumberOfOperator => found(number_of(
@@ -180,7 +181,7 @@ impl FindingCall {
 }
 
 impl InstructionCall {
-    fn answer<S: Alter>(self, conn: &mut Connection<S>) -> Result<bool, Error> {
+    fn answer<S: Session>(self, conn: &mut S) -> Result<bool, Error> {
         match self {
             InstructionCall::Standing => Ok(standing(conn, 1)?.state != State::NoInstruction),
             InstructionCall::NextMatched => found(next_matched(conn, 0)),
@@ -189,12 +190,7 @@ impl InstructionCall {
 }
 
 impl MessageCall {
-    fn answer<S: Alter>(
-        self,
-        conn: &mut Connection<S>,
-        alloc: Global,
-        keys: &Keys,
-    ) -> Result<bool, Error> {
+    fn answer<S: Session>(self, conn: &mut S, alloc: Global, keys: &Keys) -> Result<bool, Error> {
         match self {
             MessageCall::SentAt => found(sent_at(conn, alloc, keys.bic, 1)),
             MessageCall::ConfirmationOf => found(confirmation_of(conn, alloc, 8)),
@@ -216,9 +212,9 @@ impl Call {
     }
 
     /// Whether it finds something.
-    pub fn answer<S: Alter>(
+    pub fn answer<S: Session>(
         self,
-        conn: &mut Connection<S>,
+        conn: &mut S,
         alloc: Global,
         keys: &Keys,
     ) -> Result<bool, Error> {

@@ -1,6 +1,5 @@
 //! A database beside a register in memory that is filled from it.
 ghost use Rattle.std.specs.Prelude.{◌≡◌, ◌≢◌, ◌≤◌, [], true, IfOk, IsTrue, OnOk};
-ghost use Rattle.sqlite.specs.Held.{state};
 ghost use Rattle.sqlite.specs.State.{HasCleanDisk};
 ghost use Rattle.desk_engine.specs.Accepting.{IsDone};
 ghost use Rattle.desk_register.specs.View.{IfTrusted, IsLater};
@@ -25,8 +24,8 @@ use crate::schema::ours::has_desk_tables;
 use desk_register::{Messages, Stage};
 use sql_tables::compared::has_version;
 use sql_tables::fault::AuditFault;
+use sql_tables::session::Session;
 use sql_tables::versions::Version;
-use sqlite::{Alter, Connection};
 use std::alloc::Global;
 
 /// What an audit found.
@@ -47,25 +46,25 @@ pub enum Audited {
 
 /// Fills a register that holds nothing from the table `register`, and compares the tables beside it with what the register says
 /// then.
-fn fill<S: Alter, R: Messages, P: Progress>(
+fn fill<S: Session, R: Messages, P: Progress>(
     alloc: Global,
-    conn: &mut Connection<S>,
+    conn: &mut S,
     version: Version,
     register: &mut R,
     progress: &mut P,
 ) -> Result<Audited, AuditFault>
     requires stage { (R.Register.view register.old).stage ≡ Stage.Idle }
     requires empty { IfTrusted (R.Register.view register.old) (R.Register.view register.old) (HoldsKept (R.Register.view register.old).room [] (R.Register.view register.old).content) }
-    ensures filled { SoundlyIn S.Store conn.old conn.new (schema_in version) (IfTrusted (R.Register.view register.old) (R.Register.view register.new)
-        (AreInOrder (schema_in version) (tables S.Store conn.old).trees → AreAllFormedIn version (tables S.Store conn.old).trees
-        → IfOk result (λ audited. audited ≡ Audited.Whole → IsFilled version (tables S.Store conn.old) (R.Register.view register.old).room (R.Register.view register.new).content))) }
+    ensures filled { SoundlyIn S.state conn.old conn.new (schema_in version) (IfTrusted (R.Register.view register.old) (R.Register.view register.new)
+        (AreInOrder (schema_in version) (tables S.state conn.old).trees → AreAllFormedIn version (tables S.state conn.old).trees
+        → IfOk result (λ audited. audited ≡ Audited.Whole → IsFilled version (tables S.state conn.old) (R.Register.view register.old).room (R.Register.view register.new).content))) }
     ensures holds { IfTrusted (R.Register.view register.old) (R.Register.view register.new) (IfOk result (λ audited. audited ≡ Audited.Whole → HoldsFormed (R.Register.view register.old).room (R.Register.view register.new).content)) }
-    ensures exact { SoundlyIn S.Store conn.old conn.new (schema_in version) (IfTrusted (R.Register.view register.old) (R.Register.view register.new)
-        ((content : Content) → IsFilled version (tables S.Store conn.old) (R.Register.view register.old).room content → IfOk result (λ audited. audited ≡ Audited.Whole))) }
+    ensures exact { SoundlyIn S.state conn.old conn.new (schema_in version) (IfTrusted (R.Register.view register.old) (R.Register.view register.new)
+        ((content : Content) → IsFilled version (tables S.state conn.old) (R.Register.view register.old).room content → IfOk result (λ audited. audited ≡ Audited.Whole))) }
     ensures not_other { IfOk result (λ audited. audited ≢ Audited.OtherTables) }
-    ensures look { AuditsIn S.Store conn.old conn.new (schema_in version) result }
-    ensures cause { SoundlyIn S.Store conn.old conn.new (schema_in version) (IfTrusted (R.Register.view register.old) (R.Register.view register.new)
-        (AreInOrder (schema_in version) (tables S.Store conn.old).trees → AreAllFormedIn version (tables S.Store conn.old).trees → AuditsForCause S.Store conn.old conn.new result)) }
+    ensures look { AuditsIn S.state conn.old conn.new (schema_in version) result }
+    ensures cause { SoundlyIn S.state conn.old conn.new (schema_in version) (IfTrusted (R.Register.view register.old) (R.Register.view register.new)
+        (AreInOrder (schema_in version) (tables S.state conn.old).trees → AreAllFormedIn version (tables S.state conn.old).trees → AuditsForCause S.state conn.old conn.new result)) }
     ensures done { OnOk result (IsDone (R.Register.view register.old) (R.Register.view register.new)) }
     ensures later { IsLater (R.Register.view register.old) (R.Register.view register.new) }
     ensures blame { R.Register.in_memory ≡ true → BlamesTaking (of_register result) (R.Register.view register.old) (R.Register.view register.new) }
@@ -84,27 +83,27 @@ fn fill<S: Alter, R: Messages, P: Progress>(
 /// What is found whole, with its rows in order, is that of one, and the register holds its content; that it holds some accepted
 /// history rests on no answer of the tables. Else, and after a fault, the register should be given up. `progress` is told how
 /// many entries are taken in.
-pub fn audit_version<S: Alter, R: Messages, P: Progress>(
+pub fn audit_version<S: Session, R: Messages, P: Progress>(
     alloc: Global,
-    conn: &mut Connection<S>,
+    conn: &mut S,
     version: Version,
     register: &mut R,
     progress: &mut P,
 ) -> Result<Audited, AuditFault>
     requires stage { (R.Register.view register.old).stage ≡ Stage.Idle }
     requires empty { IfTrusted (R.Register.view register.old) (R.Register.view register.old) (HoldsKept (R.Register.view register.old).room [] (R.Register.view register.old).content) }
-    ensures whole { HasCleanDisk (state S.Store conn.new) → IsTrue (state S.Store conn.old).is_open → IfTrusted (R.Register.view register.old) (R.Register.view register.new)
-        (AreInOrder (tables S.Store conn.old).schema (tables S.Store conn.old).trees
-        → IfOk result (λ audited. audited ≡ Audited.Whole → HoldsVersion version (tables S.Store conn.old) (R.Register.view register.old).room (R.Register.view register.new).content)) }
+    ensures whole { HasCleanDisk (S.state conn.new) → IsTrue (S.state conn.old).is_open → IfTrusted (R.Register.view register.old) (R.Register.view register.new)
+        (AreInOrder (tables S.state conn.old).schema (tables S.state conn.old).trees
+        → IfOk result (λ audited. audited ≡ Audited.Whole → HoldsVersion version (tables S.state conn.old) (R.Register.view register.old).room (R.Register.view register.new).content)) }
     ensures holds { IfTrusted (R.Register.view register.old) (R.Register.view register.new) (IfOk result (λ audited. audited ≡ Audited.Whole → HoldsFormed (R.Register.view register.old).room (R.Register.view register.new).content)) }
-    ensures same { HasCleanDisk (state S.Store conn.new) → IsTrue (state S.Store conn.old).is_open → OnOk result (IsSame (state S.Store conn.old) (state S.Store conn.new)) }
-    ensures exact { HasCleanDisk (state S.Store conn.new) → IsTrue (state S.Store conn.old).is_open → IfTrusted (R.Register.view register.old) (R.Register.view register.new)
-        ((content : Content) → HoldsVersion version (tables S.Store conn.old) (R.Register.view register.old).room content → IfOk result (λ audited. audited ≡ Audited.Whole)) }
-    ensures kept { HasCleanDisk (state S.Store conn.new) → IsTrue (state S.Store conn.old).is_open → KeepsCommitted (state S.Store conn.old) (state S.Store conn.new) }
-    ensures other_tables { IfOk result (λ audited. audited ≡ Audited.OtherTables → (tables S.Store conn.old).schema ≢ schema_in version) }
-    ensures look { AuditsIn S.Store conn.old conn.new (schema_in version) result }
-    ensures cause { HasCleanDisk (state S.Store conn.new) → IsTrue (state S.Store conn.old).is_open → IfTrusted (R.Register.view register.old) (R.Register.view register.new)
-        (AreInOrder (tables S.Store conn.old).schema (tables S.Store conn.old).trees → AuditsForCause S.Store conn.old conn.new result) }
+    ensures same { HasCleanDisk (S.state conn.new) → IsTrue (S.state conn.old).is_open → OnOk result (IsSame (S.state conn.old) (S.state conn.new)) }
+    ensures exact { HasCleanDisk (S.state conn.new) → IsTrue (S.state conn.old).is_open → IfTrusted (R.Register.view register.old) (R.Register.view register.new)
+        ((content : Content) → HoldsVersion version (tables S.state conn.old) (R.Register.view register.old).room content → IfOk result (λ audited. audited ≡ Audited.Whole)) }
+    ensures kept { HasCleanDisk (S.state conn.new) → IsTrue (S.state conn.old).is_open → KeepsCommitted (S.state conn.old) (S.state conn.new) }
+    ensures other_tables { IfOk result (λ audited. audited ≡ Audited.OtherTables → (tables S.state conn.old).schema ≢ schema_in version) }
+    ensures look { AuditsIn S.state conn.old conn.new (schema_in version) result }
+    ensures cause { HasCleanDisk (S.state conn.new) → IsTrue (S.state conn.old).is_open → IfTrusted (R.Register.view register.old) (R.Register.view register.new)
+        (AreInOrder (tables S.state conn.old).schema (tables S.state conn.old).trees → AuditsForCause S.state conn.old conn.new result) }
     ensures done { OnOk result (IsDone (R.Register.view register.old) (R.Register.view register.new)) }
     ensures later { IsLater (R.Register.view register.old) (R.Register.view register.new) }
     ensures blame { R.Register.in_memory ≡ true → BlamesTaking (of_register result) (R.Register.view register.old) (R.Register.view register.new) }
@@ -122,26 +121,26 @@ pub fn audit_version<S: Alter, R: Messages, P: Progress>(
 /// What is found whole, with its rows in order, is that of one, and the register holds its content; that it holds some accepted
 /// history rests on no answer of the tables. Else, and after a fault, the register should be given up. `progress` is told how
 /// many entries are taken in.
-pub fn audit<S: Alter, R: Messages, P: Progress>(
+pub fn audit<S: Session, R: Messages, P: Progress>(
     alloc: Global,
-    conn: &mut Connection<S>,
+    conn: &mut S,
     register: &mut R,
     progress: &mut P,
 ) -> Result<Audited, AuditFault>
     requires stage { (R.Register.view register.old).stage ≡ Stage.Idle }
     requires empty { IfTrusted (R.Register.view register.old) (R.Register.view register.old) (HoldsKept (R.Register.view register.old).room [] (R.Register.view register.old).content) }
-    ensures whole { HasCleanDisk (state S.Store conn.new) → IsTrue (state S.Store conn.old).is_open → IfTrusted (R.Register.view register.old) (R.Register.view register.new)
-        (AreInOrder (tables S.Store conn.old).schema (tables S.Store conn.old).trees → (R.Register.view register.old).room ≤ MOST_ENTRIES
-        → IfOk result (λ audited. audited ≡ Audited.Whole → IsAudited (tables S.Store conn.old) (R.Register.view register.old).room (R.Register.view register.new).content)) }
+    ensures whole { HasCleanDisk (S.state conn.new) → IsTrue (S.state conn.old).is_open → IfTrusted (R.Register.view register.old) (R.Register.view register.new)
+        (AreInOrder (tables S.state conn.old).schema (tables S.state conn.old).trees → (R.Register.view register.old).room ≤ MOST_ENTRIES
+        → IfOk result (λ audited. audited ≡ Audited.Whole → IsAudited (tables S.state conn.old) (R.Register.view register.old).room (R.Register.view register.new).content)) }
     ensures holds { IfTrusted (R.Register.view register.old) (R.Register.view register.new) (IfOk result (λ audited. audited ≡ Audited.Whole → HoldsFormed (R.Register.view register.old).room (R.Register.view register.new).content)) }
-    ensures same { HasCleanDisk (state S.Store conn.new) → IsTrue (state S.Store conn.old).is_open → OnOk result (IsSame (state S.Store conn.old) (state S.Store conn.new)) }
-    ensures exact { HasCleanDisk (state S.Store conn.new) → IsTrue (state S.Store conn.old).is_open → IfTrusted (R.Register.view register.old) (R.Register.view register.new)
-        ((content : Content) → IsAudited (tables S.Store conn.old) (R.Register.view register.old).room content → IfOk result (λ audited. audited ≡ Audited.Whole)) }
-    ensures kept { HasCleanDisk (state S.Store conn.new) → IsTrue (state S.Store conn.old).is_open → KeepsCommitted (state S.Store conn.old) (state S.Store conn.new) }
-    ensures other_tables { IfOk result (λ audited. audited ≡ Audited.OtherTables → (tables S.Store conn.old).schema ≢ desk_schema) }
-    ensures look { Audits S.Store conn.old conn.new result }
-    ensures cause { HasCleanDisk (state S.Store conn.new) → IsTrue (state S.Store conn.old).is_open → IfTrusted (R.Register.view register.old) (R.Register.view register.new)
-        (AreInOrder (tables S.Store conn.old).schema (tables S.Store conn.old).trees → AuditsForCause S.Store conn.old conn.new result) }
+    ensures same { HasCleanDisk (S.state conn.new) → IsTrue (S.state conn.old).is_open → OnOk result (IsSame (S.state conn.old) (S.state conn.new)) }
+    ensures exact { HasCleanDisk (S.state conn.new) → IsTrue (S.state conn.old).is_open → IfTrusted (R.Register.view register.old) (R.Register.view register.new)
+        ((content : Content) → IsAudited (tables S.state conn.old) (R.Register.view register.old).room content → IfOk result (λ audited. audited ≡ Audited.Whole)) }
+    ensures kept { HasCleanDisk (S.state conn.new) → IsTrue (S.state conn.old).is_open → KeepsCommitted (S.state conn.old) (S.state conn.new) }
+    ensures other_tables { IfOk result (λ audited. audited ≡ Audited.OtherTables → (tables S.state conn.old).schema ≢ desk_schema) }
+    ensures look { Audits S.state conn.old conn.new result }
+    ensures cause { HasCleanDisk (S.state conn.new) → IsTrue (S.state conn.old).is_open → IfTrusted (R.Register.view register.old) (R.Register.view register.new)
+        (AreInOrder (tables S.state conn.old).schema (tables S.state conn.old).trees → AuditsForCause S.state conn.old conn.new result) }
     ensures done { OnOk result (IsDone (R.Register.view register.old) (R.Register.view register.new)) }
     ensures later { IsLater (R.Register.view register.old) (R.Register.view register.new) }
     ensures blame { R.Register.in_memory ≡ true → BlamesTaking (of_register result) (R.Register.view register.old) (R.Register.view register.new) }

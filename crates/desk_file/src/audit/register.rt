@@ -25,8 +25,9 @@ use desk_register::{Register, Stage};
 use sql_entries::{Found, found_at, has_no_other};
 use sql_tables::compared::MOST;
 use sql_tables::fault::AuditFault;
+use sql_tables::session::Session;
 use sql_tables::versions::Version;
-use sqlite::{Alter, Connection, Error};
+use sqlite::Error;
 use std::alloc::Global;
 
 /// What was read of the table `register`.
@@ -51,9 +52,9 @@ pub enum Step {
 }
 
 /// Reads the row of a number, and takes its entry into a register.
-fn read_entry<S: Alter, R: Register, P: Progress>(
+fn read_entry<S: Session, R: Register, P: Progress>(
     alloc: Global,
-    conn: &mut Connection<S>,
+    conn: &mut S,
     version: Version,
     register: &mut R,
     progress: &mut P,
@@ -62,19 +63,19 @@ fn read_entry<S: Alter, R: Register, P: Progress>(
     requires number { number < 2 ^ 63 }
     requires stage { (R.view register.old).stage ≡ Stage.Idle }
     requires holds { IfTrusted (R.view register.old) (R.view register.old) (HoldsFormed (R.view register.old).room (R.view register.old).content) }
-    ensures takes { SoundlyIn S.Store conn.old conn.new (schema_in version) (IfTrusted (R.view register.old) (R.view register.new) (AllByRecursion (HasForm register_table) ((tables S.Store conn.old).trees (register_tree version))
+    ensures takes { SoundlyIn S.state conn.old conn.new (schema_in version) (IfTrusted (R.view register.old) (R.view register.new) (AllByRecursion (HasForm register_table) ((tables S.state conn.old).trees (register_tree version))
         → HoldsKept (R.view register.old).room (R.view register.old).content.register (R.view register.old).content
-        → IfOk result (λ step. step ≡ Step.Taken → TakesRow version ((tables S.Store conn.old).trees (register_tree version)) number (R.view register.old).room (R.view register.old).content (R.view register.new).content))) }
+        → IfOk result (λ step. step ≡ Step.Taken → TakesRow version ((tables S.state conn.old).trees (register_tree version)) number (R.view register.old).room (R.view register.old).content (R.view register.new).content))) }
     ensures holds { IfTrusted (R.view register.old) (R.view register.new) (IfOk result (λ step. step ≡ Step.Taken → HoldsFormed (R.view register.old).room (R.view register.new).content)) }
-    ensures exact { SoundlyIn S.Store conn.old conn.new (schema_in version) (IfTrusted (R.view register.old) (R.view register.new) ((kept : Kept) → IsRowOf version ((tables S.Store conn.old).trees (register_tree version)) number kept → HasShortNumbers kept.reply
+    ensures exact { SoundlyIn S.state conn.old conn.new (schema_in version) (IfTrusted (R.view register.old) (R.view register.new) ((kept : Kept) → IsRowOf version ((tables S.state conn.old).trees (register_tree version)) number kept → HasShortNumbers kept.reply
         → CanBeKept (R.view register.old).room ((R.view register.old).content.register ++ kept ∷ [])
         → IfOk result (λ step. (step ≡ Step.Taken) × HoldsKept (R.view register.old).room ((R.view register.old).content.register ++ kept ∷ []) (R.view register.new).content))) }
-    ensures nothing { SoundlyIn S.Store conn.old conn.new (schema_in version) (IfOk result (λ step. (step ≡ Step.Nothing) ↔ (filter (has_number number) ((tables S.Store conn.old).trees (register_tree version)) ≡ []))) }
+    ensures nothing { SoundlyIn S.state conn.old conn.new (schema_in version) (IfOk result (λ step. (step ≡ Step.Nothing) ↔ (filter (has_number number) ((tables S.state conn.old).trees (register_tree version)) ≡ []))) }
     ensures same { IfTrusted (R.view register.old) (R.view register.new) (IfOk result (λ step. step ≡ Step.Nothing → (R.view register.new).content ≡ (R.view register.old).content)) }
-    ensures look { AuditsIn S.Store conn.old conn.new (schema_in version) result }
+    ensures look { AuditsIn S.state conn.old conn.new (schema_in version) result }
     ensures done { OnOk result (IsDone (R.view register.old) (R.view register.new)) }
     ensures later { IsLater (R.view register.old) (R.view register.new) }
-    ensures cause { SoundlyIn S.Store conn.old conn.new (schema_in version) (AuditsForCause S.Store conn.old conn.new result) }
+    ensures cause { SoundlyIn S.state conn.old conn.new (schema_in version) (AuditsForCause S.state conn.old conn.new result) }
     ensures blame { R.in_memory ≡ true → BlamesTaking (of_register result) (R.view register.old) (R.view register.new) }
 {
     match found_at(alloc, conn, version, number)? {
@@ -92,11 +93,11 @@ fn read_entry<S: Alter, R: Register, P: Progress>(
 }
 
 /// What the table comes to behind so many entries: whether there is no other row.
-fn read_end<S: Alter>(conn: &mut Connection<S>, count: u64) -> Result<Reading, Error>
+fn read_end<S: Session>(conn: &mut S, count: u64) -> Result<Reading, Error>
     requires { count < 2 ^ 63 }
-    ensures none { (version : AnyVersion) → SoundlyIn S.Store conn.old conn.new (schema_in version) (IfOk result (λ reading. (reading ≡ Reading.Whole) ↔ HasNoOther ((tables S.Store conn.old).trees (register_tree version)) count)) }
-    ensures look { (version : AnyVersion) → LooksIn S.Store conn.old conn.new (schema_in version) result }
-    ensures cause { (version : AnyVersion) → SoundlyIn S.Store conn.old conn.new (schema_in version) (FailsForCause S.Store conn.old conn.new result) }
+    ensures none { (version : AnyVersion) → SoundlyIn S.state conn.old conn.new (schema_in version) (IfOk result (λ reading. (reading ≡ Reading.Whole) ↔ HasNoOther ((tables S.state conn.old).trees (register_tree version)) count)) }
+    ensures look { (version : AnyVersion) → LooksIn S.state conn.old conn.new (schema_in version) result }
+    ensures cause { (version : AnyVersion) → SoundlyIn S.state conn.old conn.new (schema_in version) (FailsForCause S.state conn.old conn.new result) }
 {
     if has_no_other(conn, count)? {
         Ok(Reading::Whole)
@@ -109,24 +110,24 @@ fn read_end<S: Alter>(conn: &mut Connection<S>, count: u64) -> Result<Reading, E
 /// where it is an accepted history of well-formed entries, and exactly the list that the register holds then. Else, and after a
 /// fault, the register should be given up: it holds the entries so far, and the last one that was read with the reply that it
 /// gets.
-pub fn read_register<S: Alter, R: Register, P: Progress>(
+pub fn read_register<S: Session, R: Register, P: Progress>(
     alloc: Global,
-    conn: &mut Connection<S>,
+    conn: &mut S,
     version: Version,
     register: &mut R,
     progress: &mut P,
 ) -> Result<Reading, AuditFault>
     requires stage { (R.view register.old).stage ≡ Stage.Idle }
     requires empty { IfTrusted (R.view register.old) (R.view register.old) (HoldsKept (R.view register.old).room [] (R.view register.old).content) }
-    ensures entries { SoundlyIn S.Store conn.old conn.new (schema_in version) (IfTrusted (R.view register.old) (R.view register.new) (AreInOrder (schema_in version) (tables S.Store conn.old).trees → AreAllFormedIn version (tables S.Store conn.old).trees
-        → IfOk result (λ reading. reading ≡ Reading.Whole → IsReadIn version (tables S.Store conn.old) (R.view register.old).room (R.view register.new).content))) }
+    ensures entries { SoundlyIn S.state conn.old conn.new (schema_in version) (IfTrusted (R.view register.old) (R.view register.new) (AreInOrder (schema_in version) (tables S.state conn.old).trees → AreAllFormedIn version (tables S.state conn.old).trees
+        → IfOk result (λ reading. reading ≡ Reading.Whole → IsReadIn version (tables S.state conn.old) (R.view register.old).room (R.view register.new).content))) }
     ensures holds { IfTrusted (R.view register.old) (R.view register.new) (IfOk result (λ reading. reading ≡ Reading.Whole → HoldsFormed (R.view register.old).room (R.view register.new).content)) }
-    ensures exact { SoundlyIn S.Store conn.old conn.new (schema_in version) (IfTrusted (R.view register.old) (R.view register.new) ((content : Content) → IsReadIn version (tables S.Store conn.old) (R.view register.old).room content
+    ensures exact { SoundlyIn S.state conn.old conn.new (schema_in version) (IfTrusted (R.view register.old) (R.view register.new) ((content : Content) → IsReadIn version (tables S.state conn.old) (R.view register.old).room content
         → IfOk result (λ reading. (reading ≡ Reading.Whole) × ((R.view register.new).content.register ≡ content.register)))) }
-    ensures look { AuditsIn S.Store conn.old conn.new (schema_in version) result }
+    ensures look { AuditsIn S.state conn.old conn.new (schema_in version) result }
     ensures done { OnOk result (IsDone (R.view register.old) (R.view register.new)) }
     ensures later { IsLater (R.view register.old) (R.view register.new) }
-    ensures cause { SoundlyIn S.Store conn.old conn.new (schema_in version) (AuditsForCause S.Store conn.old conn.new result) }
+    ensures cause { SoundlyIn S.state conn.old conn.new (schema_in version) (AuditsForCause S.state conn.old conn.new result) }
     ensures blame { R.in_memory ≡ true → BlamesTaking (of_register result) (R.view register.old) (R.view register.new) }
 {
     for before in 0..MOST {

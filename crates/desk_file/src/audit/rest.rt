@@ -15,8 +15,8 @@ ghost use Rattle.desk_file.specs.Audited.{HasRest, SaysRest};
 use desk_register::{Messages, Stage};
 use sql_rows::{has_amounts, has_sent, has_standings};
 use sql_tables::fault::AuditFault;
+use sql_tables::session::Session;
 use sql_tables::versions::Version;
-use sqlite::{Alter, Connection};
 use std::alloc::Global;
 
 /// A table whose rows follow from the entries.
@@ -32,23 +32,23 @@ pub enum Table {
 
 /// Of a version that has these tables, the first that does not say what a register does, which holds an accepted history; None
 /// where each does.
-fn first_unlike<S: Alter, R: Messages>(
+fn first_unlike<S: Session, R: Messages>(
     alloc: Global,
-    conn: &mut Connection<S>,
+    conn: &mut S,
     version: Version,
     register: &mut R,
 ) -> Result<Option<Table>, AuditFault>
     requires stage { (R.Register.view register.old).stage ≡ Stage.Idle }
-    ensures says { Soundly S.Store conn.old conn.new (IfTrusted (R.Register.view register.old) (R.Register.view register.new)
-        (AreInOrder desk_schema (tables S.Store conn.old).trees → AreAllFormed (tables S.Store conn.old).trees
+    ensures says { Soundly S.state conn.old conn.new (IfTrusted (R.Register.view register.old) (R.Register.view register.new)
+        (AreInOrder desk_schema (tables S.state conn.old).trees → AreAllFormed (tables S.state conn.old).trees
         → HoldsKept (R.Register.view register.old).room (R.Register.view register.old).content.register (R.Register.view register.old).content
-        → IfOk result (λ other. other ≡ None → SaysRest version (tables S.Store conn.old) (R.Register.view register.old).content))) }
-    ensures exact { Soundly S.Store conn.old conn.new (IfTrusted (R.Register.view register.old) (R.Register.view register.new)
+        → IfOk result (λ other. other ≡ None → SaysRest version (tables S.state conn.old) (R.Register.view register.old).content))) }
+    ensures exact { Soundly S.state conn.old conn.new (IfTrusted (R.Register.view register.old) (R.Register.view register.new)
         (HoldsKept (R.Register.view register.old).room (R.Register.view register.old).content.register (R.Register.view register.old).content → AreWellFormed (history_of (R.Register.view register.old).content)
-        → SaysRest version (tables S.Store conn.old) (R.Register.view register.old).content → IfOk result (λ other. other ≡ None))) }
-    ensures look { Audits S.Store conn.old conn.new result }
-    ensures cause { Soundly S.Store conn.old conn.new (IfTrusted (R.Register.view register.old) (R.Register.view register.new)
-        (AreInOrder desk_schema (tables S.Store conn.old).trees → AreAllFormed (tables S.Store conn.old).trees → AuditsForCause S.Store conn.old conn.new result)) }
+        → SaysRest version (tables S.state conn.old) (R.Register.view register.old).content → IfOk result (λ other. other ≡ None))) }
+    ensures look { Audits S.state conn.old conn.new result }
+    ensures cause { Soundly S.state conn.old conn.new (IfTrusted (R.Register.view register.old) (R.Register.view register.new)
+        (AreInOrder desk_schema (tables S.state conn.old).trees → AreAllFormed (tables S.state conn.old).trees → AuditsForCause S.state conn.old conn.new result)) }
     ensures read { Consults result (R.Register.view register.old) (R.Register.view register.new) }
 {
     if !has_standings(alloc, conn, version, register)? {
@@ -65,23 +65,23 @@ fn first_unlike<S: Alter, R: Messages>(
 
 /// The first table that does not say what a register does, which holds an accepted history; None where each does that a version of
 /// the file has.
-pub fn first_other<S: Alter, R: Messages>(
+pub fn first_other<S: Session, R: Messages>(
     alloc: Global,
-    conn: &mut Connection<S>,
+    conn: &mut S,
     version: Version,
     register: &mut R,
 ) -> Result<Option<Table>, AuditFault>
     requires stage { (R.Register.view register.old).stage ≡ Stage.Idle }
-    ensures says { SoundlyIn S.Store conn.old conn.new (schema_in version) (IfTrusted (R.Register.view register.old) (R.Register.view register.new)
-        (AreInOrder (schema_in version) (tables S.Store conn.old).trees → AreAllFormedIn version (tables S.Store conn.old).trees
+    ensures says { SoundlyIn S.state conn.old conn.new (schema_in version) (IfTrusted (R.Register.view register.old) (R.Register.view register.new)
+        (AreInOrder (schema_in version) (tables S.state conn.old).trees → AreAllFormedIn version (tables S.state conn.old).trees
         → HoldsKept (R.Register.view register.old).room (R.Register.view register.old).content.register (R.Register.view register.old).content
-        → IfOk result (λ other. other ≡ None → HasRest version (tables S.Store conn.old) (R.Register.view register.old).content))) }
-    ensures exact { SoundlyIn S.Store conn.old conn.new (schema_in version) (IfTrusted (R.Register.view register.old) (R.Register.view register.new)
+        → IfOk result (λ other. other ≡ None → HasRest version (tables S.state conn.old) (R.Register.view register.old).content))) }
+    ensures exact { SoundlyIn S.state conn.old conn.new (schema_in version) (IfTrusted (R.Register.view register.old) (R.Register.view register.new)
         (HoldsKept (R.Register.view register.old).room (R.Register.view register.old).content.register (R.Register.view register.old).content → AreWellFormed (history_of (R.Register.view register.old).content)
-        → HasRest version (tables S.Store conn.old) (R.Register.view register.old).content → IfOk result (λ other. other ≡ None))) }
-    ensures look { AuditsIn S.Store conn.old conn.new (schema_in version) result }
-    ensures cause { SoundlyIn S.Store conn.old conn.new (schema_in version) (IfTrusted (R.Register.view register.old) (R.Register.view register.new)
-        (AreInOrder (schema_in version) (tables S.Store conn.old).trees → AreAllFormedIn version (tables S.Store conn.old).trees → AuditsForCause S.Store conn.old conn.new result)) }
+        → HasRest version (tables S.state conn.old) (R.Register.view register.old).content → IfOk result (λ other. other ≡ None))) }
+    ensures look { AuditsIn S.state conn.old conn.new (schema_in version) result }
+    ensures cause { SoundlyIn S.state conn.old conn.new (schema_in version) (IfTrusted (R.Register.view register.old) (R.Register.view register.new)
+        (AreInOrder (schema_in version) (tables S.state conn.old).trees → AreAllFormedIn version (tables S.state conn.old).trees → AuditsForCause S.state conn.old conn.new result)) }
     ensures read { Consults result (R.Register.view register.old) (R.Register.view register.new) }
 {
     match version {

@@ -1,13 +1,12 @@
 //! Whether a schema is the desk's, in a version of the file.
 ghost use Rattle.std.specs.Prelude.{◌≡◌, ◌↔◌, IsTrue};
-ghost use Rattle.sqlite.specs.Held.{state};
 ghost use Rattle.sql_tables.specs.Versions.{schema_in, AreAllFormedIn};
 ghost use Rattle.sql_tables.specs.Order.{AreInOrder};
 
 use crate::schema::tables::{are_indexes, are_tables};
+use sql_tables::session::Session;
 use sql_tables::tables::{FIRST_INDEXES, FIRST_TABLES, INDEXES, TABLES};
 use sql_tables::versions::Version;
-use sqlite::{Alter, Connection};
 use sqlite_items::Items;
 use sqlite_schema::schema::{Index, Schema, Table};
 
@@ -41,9 +40,9 @@ pub fn is_desk(schema: &Schema, version: Version) -> bool
 
 /// Whether the database of a connection is the desk's in a version of the file. Then, where its rows stand in order, each has the
 /// form of its table, and no key comes twice: so the library has found it, and nothing is read again.
-pub fn has_desk_tables<S: Alter>(conn: &Connection<S>, version: Version) -> bool
-    ensures exact { IsTrue result ↔ ((state S.Store conn.now).now.schema ≡ schema_in version) }
-    ensures formed { IsTrue result → IsTrue (state S.Store conn.now).is_open → AreInOrder (schema_in version) (state S.Store conn.now).now.trees → AreAllFormedIn version (state S.Store conn.now).now.trees }
+pub fn has_desk_tables<S: Session>(conn: &S, version: Version) -> bool
+    ensures exact { IsTrue result ↔ ((S.state conn.now).now.schema ≡ schema_in version) }
+    ensures formed { IsTrue result → IsTrue (S.state conn.now).is_open → AreInOrder (schema_in version) (S.state conn.now).now.trees → AreAllFormedIn version (S.state conn.now).now.trees }
 {
     is_desk(conn.schema(), version)
 }

@@ -18,25 +18,25 @@ use crate::amounts::compared::recorded::{are_entries_recorded, is_paid_recorded}
 use crate::amounts::compared::table::are_true_tables;
 use desk_register::{Register, Stage};
 use sql_tables::fault::AuditFault;
-use sqlite::{Alter, Connection};
+use sql_tables::session::Session;
 use std::alloc::Global;
 
 /// Whether the tables of amounts say what a register has, and nothing else. What is 0 may have a row or none; but a currency
 /// has a row exactly where some of it was ever paid in.
-pub fn has_amounts<S: Alter, R: Register>(
+pub fn has_amounts<S: Session, R: Register>(
     alloc: Global,
-    conn: &mut Connection<S>,
+    conn: &mut S,
     register: &mut R,
 ) -> Result<bool, AuditFault>
     requires stage { (R.view register.old).stage ≡ Stage.Idle }
-    ensures says { Soundly S.Store conn.old conn.new (IfTrusted (R.view register.old) (R.view register.new)
-        (AreInOrder desk_schema (tables S.Store conn.old).trees → AreAllFormed (tables S.Store conn.old).trees → HasNoStranger (R.view register.old).content
-        → IfOk result (λ so. IsTrue so → HasAmounts (tables S.Store conn.old) (R.view register.old).content))) }
-    ensures exact { Soundly S.Store conn.old conn.new (IfTrusted (R.view register.old) (R.view register.new)
-        (HasReadable (R.view register.old).content → HasAmounts (tables S.Store conn.old) (R.view register.old).content → IfOk result (λ so. IsTrue so))) }
-    ensures look { Audits S.Store conn.old conn.new result }
-    ensures blame { Soundly S.Store conn.old conn.new (IfTrusted (R.view register.old) (R.view register.new)
-        (AreInOrder desk_schema (tables S.Store conn.old).trees → AreAllFormed (tables S.Store conn.old).trees → AuditsForCause S.Store conn.old conn.new result)) }
+    ensures says { Soundly S.state conn.old conn.new (IfTrusted (R.view register.old) (R.view register.new)
+        (AreInOrder desk_schema (tables S.state conn.old).trees → AreAllFormed (tables S.state conn.old).trees → HasNoStranger (R.view register.old).content
+        → IfOk result (λ so. IsTrue so → HasAmounts (tables S.state conn.old) (R.view register.old).content))) }
+    ensures exact { Soundly S.state conn.old conn.new (IfTrusted (R.view register.old) (R.view register.new)
+        (HasReadable (R.view register.old).content → HasAmounts (tables S.state conn.old) (R.view register.old).content → IfOk result (λ so. IsTrue so))) }
+    ensures look { Audits S.state conn.old conn.new result }
+    ensures blame { Soundly S.state conn.old conn.new (IfTrusted (R.view register.old) (R.view register.new)
+        (AreInOrder desk_schema (tables S.state conn.old).trees → AreAllFormed (tables S.state conn.old).trees → AuditsForCause S.state conn.old conn.new result)) }
     ensures read { Consults result (R.view register.old) (R.view register.new) }
 {
     if !are_true_tables(alloc, conn, register)? {

@@ -6,9 +6,10 @@ ghost use Rattle.sql_tables.specs.Calls.{FailsForCause, Looks, Soundly, tables};
 
 use crate::amounts::reading::holding_shown;
 use desk_codes::{AccountId, Isin};
+use sql_tables::session::Session;
 use sql_tables::statement::query;
 use sqlite::types::ValueRef;
-use sqlite::{Alter, Connection, Error, Row};
+use sqlite::{Error, Row};
 
 /// The bytes of a security; with none, the empty text.
 fn bytes_of(isin: &Option<Isin>) -> &[u8]
@@ -21,14 +22,14 @@ fn bytes_of(isin: &Option<Isin>) -> &[u8]
 }
 
 /// The row of the first security above one of which the account holds some, or none.
-fn next_rows<S: Alter>(
-    conn: &mut Connection<S>,
+fn next_rows<S: Session>(
+    conn: &mut S,
     account: AccountId,
     above: Option<Isin>,
 ) -> Result<Vec<Row>, Error>
-    ensures value { Soundly S.Store conn.old conn.new (AreAmounts (tables S.Store conn.old) → IfOk result (λ rows. ShowsNext (tables S.Store conn.old) account above rows.items)) }
-    ensures look { Looks S.Store conn.old conn.new result }
-    ensures blame { Soundly S.Store conn.old conn.new (FailsForCause S.Store conn.old conn.new result) }
+    ensures value { Soundly S.state conn.old conn.new (AreAmounts (tables S.state conn.old) → IfOk result (λ rows. ShowsNext (tables S.state conn.old) account above rows.items)) }
+    ensures look { Looks S.state conn.old conn.new result }
+    ensures blame { Soundly S.state conn.old conn.new (FailsForCause S.state conn.old conn.new result) }
 {
     query(
         conn,
@@ -43,14 +44,14 @@ fn next_rows<S: Alter>(
 /// The first security, in order of its bytes, above one of which the account holds some, and how much; with none, the
 /// first of all. None where there is none. A row of a text that is no ISIN, which no call writes, is answered with
 /// `DatabaseCorrupt`.
-pub fn next_holding<S: Alter>(
-    conn: &mut Connection<S>,
+pub fn next_holding<S: Session>(
+    conn: &mut S,
     account: AccountId,
     above: Option<Isin>,
 ) -> Result<Option<(Isin, u64)>, Error>
-    ensures value { Soundly S.Store conn.old conn.new (AreAmounts (tables S.Store conn.old) → IfOk result (IsNextHolding (tables S.Store conn.old) account above)) }
-    ensures look { Looks S.Store conn.old conn.new result }
-    ensures blame { Soundly S.Store conn.old conn.new (AreAmounts (tables S.Store conn.old) → HoldsIsins (tables S.Store conn.old) account → FailsForCause S.Store conn.old conn.new result) }
+    ensures value { Soundly S.state conn.old conn.new (AreAmounts (tables S.state conn.old) → IfOk result (IsNextHolding (tables S.state conn.old) account above)) }
+    ensures look { Looks S.state conn.old conn.new result }
+    ensures blame { Soundly S.state conn.old conn.new (AreAmounts (tables S.state conn.old) → HoldsIsins (tables S.state conn.old) account → FailsForCause S.state conn.old conn.new result) }
 {
     let rows = next_rows(conn, account, above)?;
     holding_shown(rows.as_slice())

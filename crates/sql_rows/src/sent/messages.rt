@@ -12,16 +12,17 @@ use crate::sent::reading::message_in;
 use desk_codes::Bic;
 use desk_rules::Sent;
 use sql_tables::rows::only_number;
+use sql_tables::session::Session;
 use sql_tables::statement::{execute, query};
 use sqlite::types::ValueRef;
-use sqlite::{Alter, Connection, Error, Row};
+use sqlite::{Error, Row};
 use std::alloc::Global;
 
 /// How many messages were sent.
-pub fn sent_count<S: Alter>(conn: &mut Connection<S>) -> Result<u64, Error>
-    ensures value { Soundly S.Store conn.old conn.new ((messages : List Message) → AreSent (tables S.Store conn.old) messages → IfOk result (λ r. r ≡ length messages)) }
-    ensures look { Looks S.Store conn.old conn.new result }
-    ensures blame { Soundly S.Store conn.old conn.new ((messages : List Message) → AreSent (tables S.Store conn.old) messages → FailsForCause S.Store conn.old conn.new result) }
+pub fn sent_count<S: Session>(conn: &mut S) -> Result<u64, Error>
+    ensures value { Soundly S.state conn.old conn.new ((messages : List Message) → AreSent (tables S.state conn.old) messages → IfOk result (λ r. r ≡ length messages)) }
+    ensures look { Looks S.state conn.old conn.new result }
+    ensures blame { Soundly S.state conn.old conn.new ((messages : List Message) → AreSent (tables S.state conn.old) messages → FailsForCause S.state conn.old conn.new result) }
 {
     let rows = last_number_rows(conn)?;
     last_in(&rows)
@@ -29,15 +30,15 @@ pub fn sent_count<S: Alter>(conn: &mut Connection<S>) -> Result<u64, Error>
 
 /// The message of this place among those that were sent to a participant, counted from 1; None where there is none. It looks once
 /// for each message to the participant up to this one.
-pub fn sent_at<S: Alter>(
-    conn: &mut Connection<S>,
+pub fn sent_at<S: Session>(
+    conn: &mut S,
     alloc: Global,
     bic: Bic,
     place: u64,
 ) -> Result<Option<Sent>, Error>
-    ensures value { Soundly S.Store conn.old conn.new ((messages : List Message) → AreSent (tables S.Store conn.old) messages → IfOk result (λ r. r ≡ sent_at (sent_to messages bic) place)) }
-    ensures look { Looks S.Store conn.old conn.new result }
-    ensures blame { Soundly S.Store conn.old conn.new ((messages : List Message) → AreSent (tables S.Store conn.old) messages → IfSome (sent_at (sent_to messages bic) place) IsSendable → FailsForCause S.Store conn.old conn.new result) }
+    ensures value { Soundly S.state conn.old conn.new ((messages : List Message) → AreSent (tables S.state conn.old) messages → IfOk result (λ r. r ≡ sent_at (sent_to messages bic) place)) }
+    ensures look { Looks S.state conn.old conn.new result }
+    ensures blame { Soundly S.state conn.old conn.new ((messages : List Message) → AreSent (tables S.state conn.old) messages → IfSome (sent_at (sent_to messages bic) place) IsSendable → FailsForCause S.state conn.old conn.new result) }
 {
     let Some(number) = number_to(conn, bic, place)? else {
         return Ok(None);
@@ -46,24 +47,24 @@ pub fn sent_at<S: Alter>(
 }
 
 /// The first message that confirms the instruction of this number; None where none was sent.
-pub fn confirmation_of<S: Alter>(
-    conn: &mut Connection<S>,
+pub fn confirmation_of<S: Session>(
+    conn: &mut S,
     alloc: Global,
     number: u64,
 ) -> Result<Option<Sent>, Error>
-    ensures value { Soundly S.Store conn.old conn.new ((messages : List Message) → AreSent (tables S.Store conn.old) messages → IfOk result (λ r. r ≡ find (confirms_it number) messages)) }
-    ensures look { Looks S.Store conn.old conn.new result }
-    ensures blame { Soundly S.Store conn.old conn.new ((messages : List Message) → AreSent (tables S.Store conn.old) messages → IfSome (find (confirms_it number) messages) IsSendable → FailsForCause S.Store conn.old conn.new result) }
+    ensures value { Soundly S.state conn.old conn.new ((messages : List Message) → AreSent (tables S.state conn.old) messages → IfOk result (λ r. r ≡ find (confirms_it number) messages)) }
+    ensures look { Looks S.state conn.old conn.new result }
+    ensures blame { Soundly S.state conn.old conn.new ((messages : List Message) → AreSent (tables S.state conn.old) messages → IfSome (find (confirms_it number) messages) IsSendable → FailsForCause S.state conn.old conn.new result) }
 {
     let rows = confirmation_rows(conn, number)?;
     message_in(alloc, &rows)
 }
 
 /// Adds a message to those that were sent. Where its number would pass 2^63 - 1, it is refused as an overflow.
-pub fn add_sent<S: Alter>(conn: &mut Connection<S>, message: &Sent) -> Result<(), Error>
-    ensures added { Soundly S.Store conn.old conn.new ((messages : List Message) → AreSent (tables S.Store conn.old) messages → OnOk result (Adds (tables S.Store conn.old) (tables S.Store conn.new) messages message.now)) }
-    ensures write { Writes S.Store conn.old conn.new result }
-    ensures blame { Soundly S.Store conn.old conn.new ((messages : List Message) → AreSent (tables S.Store conn.old) messages → length messages + 1 < 2 ^ 63 → FailsForCause S.Store conn.old conn.new result) }
+pub fn add_sent<S: Session>(conn: &mut S, message: &Sent) -> Result<(), Error>
+    ensures added { Soundly S.state conn.old conn.new ((messages : List Message) → AreSent (tables S.state conn.old) messages → OnOk result (Adds (tables S.state conn.old) (tables S.state conn.new) messages message.now)) }
+    ensures write { Writes S.state conn.old conn.new result }
+    ensures blame { Soundly S.state conn.old conn.new ((messages : List Message) → AreSent (tables S.state conn.old) messages → length messages + 1 < 2 ^ 63 → FailsForCause S.state conn.old conn.new result) }
 {
     let count = sent_count(conn)?;
     let number = next(count)?;
@@ -72,10 +73,10 @@ pub fn add_sent<S: Alter>(conn: &mut Connection<S>, message: &Sent) -> Result<()
 }
 
 /// The number of the message of this place among those that were sent to a participant; None where there is none.
-fn number_to<S: Alter>(conn: &mut Connection<S>, bic: Bic, place: u64) -> Result<Option<u64>, Error>
-    ensures value { Soundly S.Store conn.old conn.new ((messages : List Message) → AreSent (tables S.Store conn.old) messages → IfOk result (λ found. sent_at messages (unwrap_or found 0) ≡ sent_at (sent_to messages bic) place)) }
-    ensures look { Looks S.Store conn.old conn.new result }
-    ensures blame { Soundly S.Store conn.old conn.new ((messages : List Message) → AreSent (tables S.Store conn.old) messages → FailsForCause S.Store conn.old conn.new result) }
+fn number_to<S: Session>(conn: &mut S, bic: Bic, place: u64) -> Result<Option<u64>, Error>
+    ensures value { Soundly S.state conn.old conn.new ((messages : List Message) → AreSent (tables S.state conn.old) messages → IfOk result (λ found. sent_at messages (unwrap_or found 0) ≡ sent_at (sent_to messages bic) place)) }
+    ensures look { Looks S.state conn.old conn.new result }
+    ensures blame { Soundly S.state conn.old conn.new ((messages : List Message) → AreSent (tables S.state conn.old) messages → FailsForCause S.state conn.old conn.new result) }
 {
     let mut last = None;
     for _passed in 0..place {
@@ -88,24 +89,24 @@ fn number_to<S: Alter>(conn: &mut Connection<S>, bic: Bic, place: u64) -> Result
 }
 
 /// The number of the first message to a participant past one number; None where there is none.
-fn next_to<S: Alter>(conn: &mut Connection<S>, bic: Bic, after: u64) -> Result<Option<u64>, Error>
-    ensures value { Soundly S.Store conn.old conn.new ((messages : List Message) → AreSent (tables S.Store conn.old) messages → after < 2 ^ 63 → IfOk result (λ found. IsNext messages bic after found)) }
-    ensures look { Looks S.Store conn.old conn.new result }
-    ensures blame { Soundly S.Store conn.old conn.new ((messages : List Message) → AreSent (tables S.Store conn.old) messages → after < 2 ^ 63 → FailsForCause S.Store conn.old conn.new result) }
+fn next_to<S: Session>(conn: &mut S, bic: Bic, after: u64) -> Result<Option<u64>, Error>
+    ensures value { Soundly S.state conn.old conn.new ((messages : List Message) → AreSent (tables S.state conn.old) messages → after < 2 ^ 63 → IfOk result (λ found. IsNext messages bic after found)) }
+    ensures look { Looks S.state conn.old conn.new result }
+    ensures blame { Soundly S.state conn.old conn.new ((messages : List Message) → AreSent (tables S.state conn.old) messages → after < 2 ^ 63 → FailsForCause S.state conn.old conn.new result) }
 {
     let rows = next_rows(conn, bic, after)?;
     only_number(&rows)
 }
 
 /// The message of this number; None where there is none.
-fn message_numbered<S: Alter>(
-    conn: &mut Connection<S>,
+fn message_numbered<S: Session>(
+    conn: &mut S,
     alloc: Global,
     number: u64,
 ) -> Result<Option<Sent>, Error>
-    ensures value { Soundly S.Store conn.old conn.new ((messages : List Message) → AreSent (tables S.Store conn.old) messages → IfOk result (λ r. r ≡ sent_at messages number)) }
-    ensures look { Looks S.Store conn.old conn.new result }
-    ensures blame { Soundly S.Store conn.old conn.new ((messages : List Message) → AreSent (tables S.Store conn.old) messages → IfSome (sent_at messages number) IsSendable → FailsForCause S.Store conn.old conn.new result) }
+    ensures value { Soundly S.state conn.old conn.new ((messages : List Message) → AreSent (tables S.state conn.old) messages → IfOk result (λ r. r ≡ sent_at messages number)) }
+    ensures look { Looks S.state conn.old conn.new result }
+    ensures blame { Soundly S.state conn.old conn.new ((messages : List Message) → AreSent (tables S.state conn.old) messages → IfSome (sent_at messages number) IsSendable → FailsForCause S.state conn.old conn.new result) }
 {
     let rows = message_rows(conn, number)?;
     message_in(alloc, &rows)
@@ -118,10 +119,10 @@ fn last_in(rows: &[Row]) -> Result<u64, Error>
     Ok(number.unwrap_or(0))
 }
 
-fn last_number_rows<S: Alter>(conn: &mut Connection<S>) -> Result<Vec<Row>, Error>
-    ensures shown { Soundly S.Store conn.old conn.new ((messages : List Message) → AreSent (tables S.Store conn.old) messages → IfOk result (λ rows. IsLast rows.items (length messages))) }
-    ensures look { Looks S.Store conn.old conn.new result }
-    ensures blame { Soundly S.Store conn.old conn.new (FailsForCause S.Store conn.old conn.new result) }
+fn last_number_rows<S: Session>(conn: &mut S) -> Result<Vec<Row>, Error>
+    ensures shown { Soundly S.state conn.old conn.new ((messages : List Message) → AreSent (tables S.state conn.old) messages → IfOk result (λ rows. IsLast rows.items (length messages))) }
+    ensures look { Looks S.state conn.old conn.new result }
+    ensures blame { Soundly S.state conn.old conn.new (FailsForCause S.state conn.old conn.new result) }
 {
     query(
         conn,
@@ -130,10 +131,10 @@ fn last_number_rows<S: Alter>(conn: &mut Connection<S>) -> Result<Vec<Row>, Erro
     )
 }
 
-fn next_rows<S: Alter>(conn: &mut Connection<S>, bic: Bic, after: u64) -> Result<Vec<Row>, Error>
-    ensures shown { Soundly S.Store conn.old conn.new ((messages : List Message) → AreSent (tables S.Store conn.old) messages → after < 2 ^ 63 → IfOk result (λ rows. ShowsNext messages bic after rows.items)) }
-    ensures look { Looks S.Store conn.old conn.new result }
-    ensures blame { Soundly S.Store conn.old conn.new (FailsForCause S.Store conn.old conn.new result) }
+fn next_rows<S: Session>(conn: &mut S, bic: Bic, after: u64) -> Result<Vec<Row>, Error>
+    ensures shown { Soundly S.state conn.old conn.new ((messages : List Message) → AreSent (tables S.state conn.old) messages → after < 2 ^ 63 → IfOk result (λ rows. ShowsNext messages bic after rows.items)) }
+    ensures look { Looks S.state conn.old conn.new result }
+    ensures blame { Soundly S.state conn.old conn.new (FailsForCause S.state conn.old conn.new result) }
 {
     query(
         conn,
@@ -142,10 +143,10 @@ fn next_rows<S: Alter>(conn: &mut Connection<S>, bic: Bic, after: u64) -> Result
     )
 }
 
-fn message_rows<S: Alter>(conn: &mut Connection<S>, number: u64) -> Result<Vec<Row>, Error>
-    ensures shown { Soundly S.Store conn.old conn.new ((messages : List Message) → AreSent (tables S.Store conn.old) messages → IfOk result (λ rows. IsMessage rows.items (sent_at messages number))) }
-    ensures look { Looks S.Store conn.old conn.new result }
-    ensures blame { Soundly S.Store conn.old conn.new (FailsForCause S.Store conn.old conn.new result) }
+fn message_rows<S: Session>(conn: &mut S, number: u64) -> Result<Vec<Row>, Error>
+    ensures shown { Soundly S.state conn.old conn.new ((messages : List Message) → AreSent (tables S.state conn.old) messages → IfOk result (λ rows. IsMessage rows.items (sent_at messages number))) }
+    ensures look { Looks S.state conn.old conn.new result }
+    ensures blame { Soundly S.state conn.old conn.new (FailsForCause S.state conn.old conn.new result) }
 {
     query(
         conn,
@@ -154,10 +155,10 @@ fn message_rows<S: Alter>(conn: &mut Connection<S>, number: u64) -> Result<Vec<R
     )
 }
 
-fn confirmation_rows<S: Alter>(conn: &mut Connection<S>, number: u64) -> Result<Vec<Row>, Error>
-    ensures shown { Soundly S.Store conn.old conn.new ((messages : List Message) → AreSent (tables S.Store conn.old) messages → IfOk result (λ rows. IsMessage rows.items (find (confirms_it number) messages))) }
-    ensures look { Looks S.Store conn.old conn.new result }
-    ensures blame { Soundly S.Store conn.old conn.new (FailsForCause S.Store conn.old conn.new result) }
+fn confirmation_rows<S: Session>(conn: &mut S, number: u64) -> Result<Vec<Row>, Error>
+    ensures shown { Soundly S.state conn.old conn.new ((messages : List Message) → AreSent (tables S.state conn.old) messages → IfOk result (λ rows. IsMessage rows.items (find (confirms_it number) messages))) }
+    ensures look { Looks S.state conn.old conn.new result }
+    ensures blame { Soundly S.state conn.old conn.new (FailsForCause S.state conn.old conn.new result) }
 {
     query(
         conn,
@@ -166,11 +167,11 @@ fn confirmation_rows<S: Alter>(conn: &mut Connection<S>, number: u64) -> Result<
     )
 }
 
-fn insert<S: Alter>(conn: &mut Connection<S>, number: u64, message: &Sent) -> Result<usize, Error>
+fn insert<S: Session>(conn: &mut S, number: u64, message: &Sent) -> Result<usize, Error>
     requires { number < 2 ^ 63 }
-    ensures added { Soundly S.Store conn.old conn.new ((messages : List Message) → AreSent (tables S.Store conn.old) messages → number ≡ length messages + 1 → OnOk result (Adds (tables S.Store conn.old) (tables S.Store conn.new) messages message.now)) }
-    ensures write { Writes S.Store conn.old conn.new result }
-    ensures blame { Soundly S.Store conn.old conn.new ((messages : List Message) → AreSent (tables S.Store conn.old) messages → number ≡ length messages + 1 → FailsForCause S.Store conn.old conn.new result) }
+    ensures added { Soundly S.state conn.old conn.new ((messages : List Message) → AreSent (tables S.state conn.old) messages → number ≡ length messages + 1 → OnOk result (Adds (tables S.state conn.old) (tables S.state conn.new) messages message.now)) }
+    ensures write { Writes S.state conn.old conn.new result }
+    ensures blame { Soundly S.state conn.old conn.new ((messages : List Message) → AreSent (tables S.state conn.old) messages → number ≡ length messages + 1 → FailsForCause S.state conn.old conn.new result) }
 {
     execute(
         conn,

@@ -1,7 +1,6 @@
 //! Where each instruction stands.
 
 ghost use Rattle.std.specs.Prelude.{◌≡◌, ◌≢◌, ◌<◌, ◌≤◌, ◌^◌, true, Some, IfOk, IfSome, OnOk};
-ghost use Rattle.sqlite.specs.Held.{state};
 ghost use Rattle.desk_rules.specs.Standing.{no_standing};
 ghost use Rattle.desk_register.specs.Changes.{standing_at};
 ghost use Rattle.sql_rows.specs.Standings.{fresh_standing, mate_written, standing_in, state_written, AreReadable, AreStandings, IsNextMatched, IsNextShown, IsStandingShown, StandingsChanged};
@@ -10,20 +9,21 @@ ghost use Rattle.sql_tables.specs.Calls.{FailsForCause, Looks, Soundly, Writes, 
 use crate::standings::states::{no_standing, reason_code, standing_shown, state_code};
 use desk_rules::{Standing, State};
 use sql_tables::rows::only_number;
+use sql_tables::session::Session;
 use sql_tables::statement::{execute, query};
 use sql_tables::values::{integer, one_row};
-use sqlite::{Alter, Connection, Error, Row};
+use sqlite::{Error, Row};
 
 /// No row has a number above it.
 const MOST: u64 = 9_223_372_036_854_775_807;
 
 /// The rows of a number.
-fn rows_of<S: Alter>(conn: &mut Connection<S>, number: u64) -> Result<Vec<Row>, Error>
+fn rows_of<S: Session>(conn: &mut S, number: u64) -> Result<Vec<Row>, Error>
     requires { number < 2 ^ 63 }
-    ensures shown { Soundly S.Store conn.old conn.new (AreStandings (tables S.Store conn.old) → IfOk result (λ rows. IsStandingShown rows.items (standing_in (tables S.Store conn.old) number))) }
-    ensures look { Looks S.Store conn.old conn.new result }
-    ensures reads { Soundly S.Store conn.old conn.new (AreStandings (tables S.Store conn.old) → IfOk result (λ rows. AreReadable rows.items)) }
-    ensures blame { Soundly S.Store conn.old conn.new (FailsForCause S.Store conn.old conn.new result) }
+    ensures shown { Soundly S.state conn.old conn.new (AreStandings (tables S.state conn.old) → IfOk result (λ rows. IsStandingShown rows.items (standing_in (tables S.state conn.old) number))) }
+    ensures look { Looks S.state conn.old conn.new result }
+    ensures reads { Soundly S.state conn.old conn.new (AreStandings (tables S.state conn.old) → IfOk result (λ rows. AreReadable rows.items)) }
+    ensures blame { Soundly S.state conn.old conn.new (FailsForCause S.state conn.old conn.new result) }
 {
     query(
         conn,
@@ -34,10 +34,10 @@ fn rows_of<S: Alter>(conn: &mut Connection<S>, number: u64) -> Result<Vec<Row>, 
 
 /// Where the instruction of a number stands; what is no instruction stands nowhere. A row that says no standing is
 /// answered with `DatabaseCorrupt`, and one with a number below 0 with an error of its column.
-pub fn standing<S: Alter>(conn: &mut Connection<S>, number: u64) -> Result<Standing, Error>
-    ensures value { Soundly S.Store conn.old conn.new (AreStandings (tables S.Store conn.old) → IfOk result (λ r. r ≡ standing_in (tables S.Store conn.old) number)) }
-    ensures look { Looks S.Store conn.old conn.new result }
-    ensures blame { Soundly S.Store conn.old conn.new (AreStandings (tables S.Store conn.old) → FailsForCause S.Store conn.old conn.new result) }
+pub fn standing<S: Session>(conn: &mut S, number: u64) -> Result<Standing, Error>
+    ensures value { Soundly S.state conn.old conn.new (AreStandings (tables S.state conn.old) → IfOk result (λ r. r ≡ standing_in (tables S.state conn.old) number)) }
+    ensures look { Looks S.state conn.old conn.new result }
+    ensures blame { Soundly S.state conn.old conn.new (AreStandings (tables S.state conn.old) → FailsForCause S.state conn.old conn.new result) }
 {
     if number > MOST {
         return Ok(no_standing());
@@ -47,11 +47,11 @@ pub fn standing<S: Alter>(conn: &mut Connection<S>, number: u64) -> Result<Stand
 }
 
 /// The row with the least number above one whose instruction is matched.
-fn first_row<S: Alter>(conn: &mut Connection<S>, after: u64) -> Result<Vec<Row>, Error>
+fn first_row<S: Session>(conn: &mut S, after: u64) -> Result<Vec<Row>, Error>
     requires { after < 2 ^ 63 }
-    ensures shown { Soundly S.Store conn.old conn.new (AreStandings (tables S.Store conn.old) → IfOk result (λ rows. IsNextShown (tables S.Store conn.old) after rows.items)) }
-    ensures look { Looks S.Store conn.old conn.new result }
-    ensures blame { Soundly S.Store conn.old conn.new (FailsForCause S.Store conn.old conn.new result) }
+    ensures shown { Soundly S.state conn.old conn.new (AreStandings (tables S.state conn.old) → IfOk result (λ rows. IsNextShown (tables S.state conn.old) after rows.items)) }
+    ensures look { Looks S.state conn.old conn.new result }
+    ensures blame { Soundly S.state conn.old conn.new (FailsForCause S.state conn.old conn.new result) }
 {
     query(
         conn,
@@ -61,23 +61,23 @@ fn first_row<S: Alter>(conn: &mut Connection<S>, after: u64) -> Result<Vec<Row>,
 }
 
 /// The least number above one whose instruction is matched and waits to be settled; None where there is none.
-pub fn next_matched<S: Alter>(conn: &mut Connection<S>, after: u64) -> Result<Option<u64>, Error>
+pub fn next_matched<S: Session>(conn: &mut S, after: u64) -> Result<Option<u64>, Error>
     requires { after < 2 ^ 63 }
-    ensures value { Soundly S.Store conn.old conn.new (AreStandings (tables S.Store conn.old) → IfOk result (λ r. IsNextMatched (tables S.Store conn.old) after r)) }
-    ensures small { Soundly S.Store conn.old conn.new (AreStandings (tables S.Store conn.old) → IfOk result (λ r. IfSome r (λ n. n < 2 ^ 63))) }
-    ensures look { Looks S.Store conn.old conn.new result }
-    ensures blame { Soundly S.Store conn.old conn.new (AreStandings (tables S.Store conn.old) → FailsForCause S.Store conn.old conn.new result) }
+    ensures value { Soundly S.state conn.old conn.new (AreStandings (tables S.state conn.old) → IfOk result (λ r. IsNextMatched (tables S.state conn.old) after r)) }
+    ensures small { Soundly S.state conn.old conn.new (AreStandings (tables S.state conn.old) → IfOk result (λ r. IfSome r (λ n. n < 2 ^ 63))) }
+    ensures look { Looks S.state conn.old conn.new result }
+    ensures blame { Soundly S.state conn.old conn.new (AreStandings (tables S.state conn.old) → FailsForCause S.state conn.old conn.new result) }
 {
     let rows = first_row(conn, after)?;
     only_number(&rows)
 }
 
 /// A row for a number, and how many rows there are more.
-fn add_row<S: Alter>(conn: &mut Connection<S>, number: u64) -> Result<usize, Error>
+fn add_row<S: Session>(conn: &mut S, number: u64) -> Result<usize, Error>
     requires { number < 2 ^ 63 }
-    ensures changed { Soundly S.Store conn.old conn.new (AreStandings (tables S.Store conn.old) → OnOk result (StandingsChanged (tables S.Store conn.old) (tables S.Store conn.new) (standing_at (standing_in (tables S.Store conn.old)) number fresh_standing))) }
-    ensures write { Writes S.Store conn.old conn.new result }
-    ensures blame { Soundly S.Store conn.old conn.new (AreStandings (tables S.Store conn.old) → (standing_in (tables S.Store conn.old) number).state ≡ State.NoInstruction → FailsForCause S.Store conn.old conn.new result) }
+    ensures changed { Soundly S.state conn.old conn.new (AreStandings (tables S.state conn.old) → OnOk result (StandingsChanged (tables S.state conn.old) (tables S.state conn.new) (standing_at (standing_in (tables S.state conn.old)) number fresh_standing))) }
+    ensures write { Writes S.state conn.old conn.new result }
+    ensures blame { Soundly S.state conn.old conn.new (AreStandings (tables S.state conn.old) → (standing_in (tables S.state conn.old) number).state ≡ State.NoInstruction → FailsForCause S.state conn.old conn.new result) }
 {
     execute(
         conn,
@@ -88,19 +88,19 @@ fn add_row<S: Alter>(conn: &mut Connection<S>, number: u64) -> Result<usize, Err
 
 /// A new instruction: unmatched, with no mate, its cancellation not requested. Where the number has a standing already it
 /// is refused with `ConstraintViolation`, and nothing has changed.
-pub fn add_standing<S: Alter>(conn: &mut Connection<S>, number: u64) -> Result<(), Error>
+pub fn add_standing<S: Session>(conn: &mut S, number: u64) -> Result<(), Error>
     requires { number < 2 ^ 63 }
-    ensures changed { Soundly S.Store conn.old conn.new (AreStandings (tables S.Store conn.old) → OnOk result (StandingsChanged (tables S.Store conn.old) (tables S.Store conn.new) (standing_at (standing_in (tables S.Store conn.old)) number fresh_standing))) }
-    ensures write { Writes S.Store conn.old conn.new result }
-    ensures blame { Soundly S.Store conn.old conn.new (AreStandings (tables S.Store conn.old) → (standing_in (tables S.Store conn.old) number).state ≡ State.NoInstruction → FailsForCause S.Store conn.old conn.new result) }
+    ensures changed { Soundly S.state conn.old conn.new (AreStandings (tables S.state conn.old) → OnOk result (StandingsChanged (tables S.state conn.old) (tables S.state conn.new) (standing_at (standing_in (tables S.state conn.old)) number fresh_standing))) }
+    ensures write { Writes S.state conn.old conn.new result }
+    ensures blame { Soundly S.state conn.old conn.new (AreStandings (tables S.state conn.old) → (standing_in (tables S.state conn.old) number).state ≡ State.NoInstruction → FailsForCause S.state conn.old conn.new result) }
 {
     add_row(conn, number)?;
     Ok(())
 }
 
 /// Changes the mate and the state of the row of a number, if there is one, and says how many were changed.
-fn write_standing<S: Alter>(
-    conn: &mut Connection<S>,
+fn write_standing<S: Session>(
+    conn: &mut S,
     number: u64,
     mate: u64,
     code: u64,
@@ -111,11 +111,11 @@ fn write_standing<S: Alter>(
     requires code { code ≤ 4 }
     requires reason { reason ≤ 3 }
     requires instruction { state_written code reason ≢ State.NoInstruction }
-    ensures changed { Soundly S.Store conn.old conn.new (AreStandings (tables S.Store conn.old) → IfOk result (λ count. count ≡ 1
-        → StandingsChanged (tables S.Store conn.old) (tables S.Store conn.new) (standing_at (standing_in (tables S.Store conn.old)) number (record (standing_in (tables S.Store conn.old) number) { mate = mate_written mate; state = state_written code reason })))) }
-    ensures write { Writes S.Store conn.old conn.new result }
-    ensures counted { Soundly S.Store conn.old conn.new (AreStandings (tables S.Store conn.old) → (standing_in (tables S.Store conn.old) number).state ≢ State.NoInstruction → IfOk result (λ count. count ≡ 1)) }
-    ensures blame { Soundly S.Store conn.old conn.new (AreStandings (tables S.Store conn.old) → FailsForCause S.Store conn.old conn.new result) }
+    ensures changed { Soundly S.state conn.old conn.new (AreStandings (tables S.state conn.old) → IfOk result (λ count. count ≡ 1
+        → StandingsChanged (tables S.state conn.old) (tables S.state conn.new) (standing_at (standing_in (tables S.state conn.old)) number (record (standing_in (tables S.state conn.old) number) { mate = mate_written mate; state = state_written code reason })))) }
+    ensures write { Writes S.state conn.old conn.new result }
+    ensures counted { Soundly S.state conn.old conn.new (AreStandings (tables S.state conn.old) → (standing_in (tables S.state conn.old) number).state ≢ State.NoInstruction → IfOk result (λ count. count ≡ 1)) }
+    ensures blame { Soundly S.state conn.old conn.new (AreStandings (tables S.state conn.old) → FailsForCause S.state conn.old conn.new result) }
 {
     execute(
         conn,
@@ -131,8 +131,8 @@ fn write_standing<S: Alter>(
 
 /// An instruction has a mate, and stands so. Where the number has no standing yet nothing has changed, and the answer is
 /// `DatabaseCorrupt`.
-pub fn set_standing<S: Alter>(
-    conn: &mut Connection<S>,
+pub fn set_standing<S: Session>(
+    conn: &mut S,
     number: u64,
     mate: u64,
     new_state: State,
@@ -141,10 +141,10 @@ pub fn set_standing<S: Alter>(
     requires some_mate { 0 < mate }
     requires mate { mate < 2 ^ 63 }
     requires instruction { new_state ≢ State.NoInstruction }
-    ensures changed { Soundly S.Store conn.old conn.new (AreStandings (tables S.Store conn.old) → OnOk result (StandingsChanged (tables S.Store conn.old) (tables S.Store conn.new)
-        (standing_at (standing_in (tables S.Store conn.old)) number (record (standing_in (tables S.Store conn.old) number) { mate = Some mate; state = new_state })))) }
-    ensures write { Writes S.Store conn.old conn.new result }
-    ensures blame { Soundly S.Store conn.old conn.new (AreStandings (tables S.Store conn.old) → (standing_in (tables S.Store conn.old) number).state ≢ State.NoInstruction → FailsForCause S.Store conn.old conn.new result) }
+    ensures changed { Soundly S.state conn.old conn.new (AreStandings (tables S.state conn.old) → OnOk result (StandingsChanged (tables S.state conn.old) (tables S.state conn.new)
+        (standing_at (standing_in (tables S.state conn.old)) number (record (standing_in (tables S.state conn.old) number) { mate = Some mate; state = new_state })))) }
+    ensures write { Writes S.state conn.old conn.new result }
+    ensures blame { Soundly S.state conn.old conn.new (AreStandings (tables S.state conn.old) → (standing_in (tables S.state conn.old) number).state ≢ State.NoInstruction → FailsForCause S.state conn.old conn.new result) }
 {
     let count = write_standing(
         conn,
@@ -157,8 +157,8 @@ pub fn set_standing<S: Alter>(
 }
 
 /// Changes the state of the row of a number, if there is one, and says how many were changed.
-fn write_state<S: Alter>(
-    conn: &mut Connection<S>,
+fn write_state<S: Session>(
+    conn: &mut S,
     number: u64,
     code: u64,
     reason: u64,
@@ -167,11 +167,11 @@ fn write_state<S: Alter>(
     requires code { code ≤ 4 }
     requires reason { reason ≤ 3 }
     requires instruction { state_written code reason ≢ State.NoInstruction }
-    ensures changed { Soundly S.Store conn.old conn.new (AreStandings (tables S.Store conn.old) → IfOk result (λ count. count ≡ 1
-        → StandingsChanged (tables S.Store conn.old) (tables S.Store conn.new) (standing_at (standing_in (tables S.Store conn.old)) number (record (standing_in (tables S.Store conn.old) number) { state = state_written code reason })))) }
-    ensures write { Writes S.Store conn.old conn.new result }
-    ensures counted { Soundly S.Store conn.old conn.new (AreStandings (tables S.Store conn.old) → (standing_in (tables S.Store conn.old) number).state ≢ State.NoInstruction → IfOk result (λ count. count ≡ 1)) }
-    ensures blame { Soundly S.Store conn.old conn.new (AreStandings (tables S.Store conn.old) → FailsForCause S.Store conn.old conn.new result) }
+    ensures changed { Soundly S.state conn.old conn.new (AreStandings (tables S.state conn.old) → IfOk result (λ count. count ≡ 1
+        → StandingsChanged (tables S.state conn.old) (tables S.state conn.new) (standing_at (standing_in (tables S.state conn.old)) number (record (standing_in (tables S.state conn.old) number) { state = state_written code reason })))) }
+    ensures write { Writes S.state conn.old conn.new result }
+    ensures counted { Soundly S.state conn.old conn.new (AreStandings (tables S.state conn.old) → (standing_in (tables S.state conn.old) number).state ≢ State.NoInstruction → IfOk result (λ count. count ≡ 1)) }
+    ensures blame { Soundly S.state conn.old conn.new (AreStandings (tables S.state conn.old) → FailsForCause S.state conn.old conn.new result) }
 {
     execute(
         conn,
@@ -182,30 +182,26 @@ fn write_state<S: Alter>(
 
 /// An instruction stands so, with the mate that it has. Where the number has no standing yet nothing has changed, and the
 /// answer is `DatabaseCorrupt`.
-pub fn set_state<S: Alter>(
-    conn: &mut Connection<S>,
-    number: u64,
-    new_state: State,
-) -> Result<(), Error>
+pub fn set_state<S: Session>(conn: &mut S, number: u64, new_state: State) -> Result<(), Error>
     requires number { number < 2 ^ 63 }
     requires instruction { new_state ≢ State.NoInstruction }
-    ensures changed { Soundly S.Store conn.old conn.new (AreStandings (tables S.Store conn.old) → OnOk result (StandingsChanged (tables S.Store conn.old) (tables S.Store conn.new)
-        (standing_at (standing_in (tables S.Store conn.old)) number (record (standing_in (tables S.Store conn.old) number) { state = new_state })))) }
-    ensures write { Writes S.Store conn.old conn.new result }
-    ensures blame { Soundly S.Store conn.old conn.new (AreStandings (tables S.Store conn.old) → (standing_in (tables S.Store conn.old) number).state ≢ State.NoInstruction → FailsForCause S.Store conn.old conn.new result) }
+    ensures changed { Soundly S.state conn.old conn.new (AreStandings (tables S.state conn.old) → OnOk result (StandingsChanged (tables S.state conn.old) (tables S.state conn.new)
+        (standing_at (standing_in (tables S.state conn.old)) number (record (standing_in (tables S.state conn.old) number) { state = new_state })))) }
+    ensures write { Writes S.state conn.old conn.new result }
+    ensures blame { Soundly S.state conn.old conn.new (AreStandings (tables S.state conn.old) → (standing_in (tables S.state conn.old) number).state ≢ State.NoInstruction → FailsForCause S.state conn.old conn.new result) }
 {
     let count = write_state(conn, number, state_code(new_state), reason_code(new_state))?;
     one_row(count)
 }
 
 /// Notes the request on the row of a number, if there is one, and says how many were changed.
-fn write_request<S: Alter>(conn: &mut Connection<S>, number: u64) -> Result<usize, Error>
+fn write_request<S: Session>(conn: &mut S, number: u64) -> Result<usize, Error>
     requires { number < 2 ^ 63 }
-    ensures changed { Soundly S.Store conn.old conn.new (AreStandings (tables S.Store conn.old) → IfOk result (λ count. count ≡ 1
-        → StandingsChanged (tables S.Store conn.old) (tables S.Store conn.new) (standing_at (standing_in (tables S.Store conn.old)) number (record (standing_in (tables S.Store conn.old) number) { cancel_requested = true })))) }
-    ensures write { Writes S.Store conn.old conn.new result }
-    ensures counted { Soundly S.Store conn.old conn.new (AreStandings (tables S.Store conn.old) → (standing_in (tables S.Store conn.old) number).state ≢ State.NoInstruction → IfOk result (λ count. count ≡ 1)) }
-    ensures blame { Soundly S.Store conn.old conn.new (AreStandings (tables S.Store conn.old) → FailsForCause S.Store conn.old conn.new result) }
+    ensures changed { Soundly S.state conn.old conn.new (AreStandings (tables S.state conn.old) → IfOk result (λ count. count ≡ 1
+        → StandingsChanged (tables S.state conn.old) (tables S.state conn.new) (standing_at (standing_in (tables S.state conn.old)) number (record (standing_in (tables S.state conn.old) number) { cancel_requested = true })))) }
+    ensures write { Writes S.state conn.old conn.new result }
+    ensures counted { Soundly S.state conn.old conn.new (AreStandings (tables S.state conn.old) → (standing_in (tables S.state conn.old) number).state ≢ State.NoInstruction → IfOk result (λ count. count ≡ 1)) }
+    ensures blame { Soundly S.state conn.old conn.new (AreStandings (tables S.state conn.old) → FailsForCause S.state conn.old conn.new result) }
 {
     execute(
         conn,
@@ -216,12 +212,12 @@ fn write_request<S: Alter>(conn: &mut Connection<S>, number: u64) -> Result<usiz
 
 /// The cancellation of an instruction is requested. Where the number has no standing yet nothing has changed, and the
 /// answer is `DatabaseCorrupt`.
-pub fn ask<S: Alter>(conn: &mut Connection<S>, number: u64) -> Result<(), Error>
+pub fn ask<S: Session>(conn: &mut S, number: u64) -> Result<(), Error>
     requires { number < 2 ^ 63 }
-    ensures changed { Soundly S.Store conn.old conn.new (AreStandings (tables S.Store conn.old) → OnOk result (StandingsChanged (tables S.Store conn.old) (tables S.Store conn.new)
-        (standing_at (standing_in (tables S.Store conn.old)) number (record (standing_in (tables S.Store conn.old) number) { cancel_requested = true })))) }
-    ensures write { Writes S.Store conn.old conn.new result }
-    ensures blame { Soundly S.Store conn.old conn.new (AreStandings (tables S.Store conn.old) → (standing_in (tables S.Store conn.old) number).state ≢ State.NoInstruction → FailsForCause S.Store conn.old conn.new result) }
+    ensures changed { Soundly S.state conn.old conn.new (AreStandings (tables S.state conn.old) → OnOk result (StandingsChanged (tables S.state conn.old) (tables S.state conn.new)
+        (standing_at (standing_in (tables S.state conn.old)) number (record (standing_in (tables S.state conn.old) number) { cancel_requested = true })))) }
+    ensures write { Writes S.state conn.old conn.new result }
+    ensures blame { Soundly S.state conn.old conn.new (AreStandings (tables S.state conn.old) → (standing_in (tables S.state conn.old) number).state ≢ State.NoInstruction → FailsForCause S.state conn.old conn.new result) }
 {
     let count = write_request(conn, number)?;
     one_row(count)

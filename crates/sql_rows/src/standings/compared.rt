@@ -19,16 +19,17 @@ use desk_rules::{Standing, State};
 use sql_tables::compared::MOST;
 use sql_tables::fault::AuditFault;
 use sql_tables::rows::number_at;
+use sql_tables::session::Session;
 use sql_tables::statement::query;
 use sql_tables::versions::Version;
-use sqlite::{Alter, Connection, Error, Row};
+use sqlite::{Error, Row};
 use std::alloc::Global;
 
 /// All rows, with their numbers, in the order of these.
-fn rows_of<S: Alter>(conn: &mut Connection<S>) -> Result<Vec<Row>, Error>
-    ensures shown { Soundly S.Store conn.old conn.new (IsTable ((tables S.Store conn.old).trees 8) → IfOk result (λ rows. rows.items ≡ map (shown_by 4) ((tables S.Store conn.old).trees 8))) }
-    ensures look { Looks S.Store conn.old conn.new result }
-    ensures blame { Soundly S.Store conn.old conn.new (FailsForCause S.Store conn.old conn.new result) }
+fn rows_of<S: Session>(conn: &mut S) -> Result<Vec<Row>, Error>
+    ensures shown { Soundly S.state conn.old conn.new (IsTable ((tables S.state conn.old).trees 8) → IfOk result (λ rows. rows.items ≡ map (shown_by 4) ((tables S.state conn.old).trees 8))) }
+    ensures look { Looks S.state conn.old conn.new result }
+    ensures blame { Soundly S.state conn.old conn.new (FailsForCause S.state conn.old conn.new result) }
 {
     query(
         conn,
@@ -140,20 +141,20 @@ fn rows_told<R: Register>(
 
 /// Whether the table `state` says of each entry of a register where it stands, as the register does, and nothing else, as far as
 /// a version of the file tells. It reads the whole table, and asks the register of each number.
-pub fn has_standings<S: Alter, R: Register>(
+pub fn has_standings<S: Session, R: Register>(
     alloc: Global,
-    conn: &mut Connection<S>,
+    conn: &mut S,
     version: Version,
     register: &mut R,
 ) -> Result<bool, AuditFault>
     requires stage { (R.view register.old).stage ≡ Stage.Idle }
-    ensures says { Soundly S.Store conn.old conn.new (IfTrusted (R.view register.old) (R.view register.new)
-        (AreInOrder desk_schema (tables S.Store conn.old).trees → AreAllFormed (tables S.Store conn.old).trees → StandsWithin (R.view register.old).content
-        → IfOk result (λ all. IsTrue all → SaysStandingsIn version (tables S.Store conn.old) (R.view register.old).content))) }
-    ensures exact { Soundly S.Store conn.old conn.new (IfTrusted (R.view register.old) (R.view register.new)
-        (StandsWithin (R.view register.old).content → IfOk result (λ all. SaysStandingsIn version (tables S.Store conn.old) (R.view register.old).content → IsTrue all))) }
-    ensures look { Audits S.Store conn.old conn.new result }
-    ensures blame { Soundly S.Store conn.old conn.new (AuditsForCause S.Store conn.old conn.new result) }
+    ensures says { Soundly S.state conn.old conn.new (IfTrusted (R.view register.old) (R.view register.new)
+        (AreInOrder desk_schema (tables S.state conn.old).trees → AreAllFormed (tables S.state conn.old).trees → StandsWithin (R.view register.old).content
+        → IfOk result (λ all. IsTrue all → SaysStandingsIn version (tables S.state conn.old) (R.view register.old).content))) }
+    ensures exact { Soundly S.state conn.old conn.new (IfTrusted (R.view register.old) (R.view register.new)
+        (StandsWithin (R.view register.old).content → IfOk result (λ all. SaysStandingsIn version (tables S.state conn.old) (R.view register.old).content → IsTrue all))) }
+    ensures look { Audits S.state conn.old conn.new result }
+    ensures blame { Soundly S.state conn.old conn.new (AuditsForCause S.state conn.old conn.new result) }
     ensures read { Consults result (R.view register.old) (R.view register.new) }
     ensures in_memory { R.in_memory ≡ true → IsOk (of_register result) }
 {

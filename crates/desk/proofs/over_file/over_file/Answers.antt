@@ -1,5 +1,5 @@
 use Rattle.std.specs.Io.KnownBytes.{Appends}
-use Rattle.sqlite.specs.Files.{file_state, over_files}
+use Rattle.sqlite.specs.Files.{file_state}
 use Rattle.desk_file.specs.Opened.{view_of_both}
 use Rattle.desk.proofs.OverFileLemmas.{told_not}
 use Rattle.desk.proofs.PlayLemmas.{kept_books}
@@ -13,7 +13,7 @@ returns-in-Err-clause-told g c =
 pub returns-in-Ok-clause-done : goal.returns-in-Ok-clause-done
 returns-in-Ok-clause-done g c =
     let both = c.in-Ok.both in
-    let view = view_of_both over_files both in
+    let view = view_of_both file_state both in
     let over = c.over_opened-told.ensures in
     let kept = kept_books view c.in-Ok.ensures.opened.ready tt in
     record {

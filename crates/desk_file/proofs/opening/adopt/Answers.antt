@@ -41,4 +41,4 @@ returns-in-Err-take_over-clause-other g c = λ clean is.
     let s1 = state g.S.Store c.in-Ok.conn in
     let clean2 : HasCleanDisk (state g.S.Store c.in-Err-take_over.conn) = c.give_up.ensures.clean clean in
     let clean1 : HasCleanDisk s1 = omega (arith, clean2, c.in-Err-take_over.ensures.handed.clean) in
-    subst (SaysOther g.S.Store) ((c.in-Ok.ensures.open clean1).opens.clean ∙ c.in-Ok.ensures.same clean1) (c.in-Err-take_over.ensures.other clean2 is)
+    subst (SaysOther (state g.S.Store)) ((c.in-Ok.ensures.open clean1).opens.clean ∙ c.in-Ok.ensures.same clean1) (c.in-Err-take_over.ensures.other clean2 is)

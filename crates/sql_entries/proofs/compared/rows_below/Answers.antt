@@ -1,5 +1,4 @@
 use Rattle.std.proofs.Common.{pos}
-use Rattle.sqlite.specs.Held.{state}
 use Rattle.sql_tables.specs.Versions.{schema_in}
 use Rattle.sql_entries.proofs.ComparedRows.{below_caused, below_shown, reads_below}
 use Rattle.sql_entries.proofs.compared.rows_below.Goals as goal
@@ -9,8 +8,8 @@ returns-clause-look g c = λ version. c.query_of.ensures.look (schema_in version
 
 pub returns-clause-shown : goal.returns-clause-shown
 returns-clause-shown g c = λ version clean is_open has.
-    below_shown version (state g.S.Store c.args.conn.now) (state g.S.Store c.query_of.new.conn) has c.args.number c.query_of.result (rw c.integer.ensures at (c.query_of.ensures.shown clean))
+    below_shown version (g.S.Session.state c.args.conn.now) (g.S.Session.state c.query_of.new.conn) has c.args.number c.query_of.result (rw c.integer.ensures at (c.query_of.ensures.shown clean))
 
 pub returns-clause-blame : goal.returns-clause-blame
 returns-clause-blame g c = λ version clean is_open has.
-    below_caused version (state g.S.Store c.args.conn.now) (state g.S.Store c.query_of.new.conn) has (pos c.args.number) c.query_of.result is_open (rw c.integer.ensures at (c.query_of.ensures.fails clean))
+    below_caused version (g.S.Session.state c.args.conn.now) (g.S.Session.state c.query_of.new.conn) has (pos c.args.number) c.query_of.result is_open (rw c.integer.ensures at (c.query_of.ensures.fails clean))

@@ -1,5 +1,4 @@
 use Rattle.std.proofs.Common.{IfErr, IfOk, IfSome, ◌<◌, ◌^◌, subst, sym, ◌∙◌}
-use Rattle.sqlite.specs.Held.{state}
 use Rattle.desk_rules.specs.declared.history.entry.Instructed.{Instructed}
 use Rattle.sql_tables.specs.Ends.{ForCause}
 use Rattle.sql_entries.specs.Entries.{entries_in}
@@ -22,4 +21,4 @@ returns-clause-small g c clean is_open has register are =
 pub returns-clause-blame : goal.returns-clause-blame
 returns-clause-blame g c clean is_open has register are =
     let it = c.in_ok-rows.ensures.shown clean is_open has register are in
-    subst (λ r. IfErr r (ForCause (state g.S.Store c.args.conn.now) (state g.S.Store c.opposite_above.new.conn))) (sym (c.only_number.ensures it.0 (c.deref.ensures.value ∙ it.1))) tt
+    subst (λ r. IfErr r (ForCause (g.S.Session.state c.args.conn.now) (g.S.Session.state c.opposite_above.new.conn))) (sym (c.only_number.ensures it.0 (c.deref.ensures.value ∙ it.1))) tt

@@ -1,5 +1,4 @@
 use Rattle.std.proofs.Common.{◌∙◌}
-use Rattle.sqlite.specs.Held.{state}
 use Rattle.sql_tables.specs.Ends.{ForCause}
 use Rattle.sql_tables.proofs.ResultLemmas.{no_error}
 use Rattle.sql_entries.specs.Entries.{entries_in}
@@ -8,5 +7,5 @@ use Rattle.sql_entries.proofs.finding.owner_of.Goals as goal
 
 pub returns-clause-blame : goal.returns-clause-blame
 returns-clause-blame g c clean is_open has register are formed =
-    no_error c.only_bic.result (ForCause (state g.S.Store c.args.conn.now) (state g.S.Store c.owner.new.conn)) (c.only_bic.ensures.all _ (c.deref.ensures.value ∙ c.in_ok-rows.ensures.shown clean is_open has register are)
+    no_error c.only_bic.result (ForCause (g.S.Session.state c.args.conn.now) (g.S.Session.state c.owner.new.conn)) (c.only_bic.ensures.all _ (c.deref.ensures.value ∙ c.in_ok-rows.ensures.shown clean is_open has register are)
     (owner_is_bic c.args.account (entries_in register) (are_spelt (entries_in register) formed)))

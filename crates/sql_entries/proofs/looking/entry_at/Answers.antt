@@ -1,4 +1,3 @@
-use Rattle.sqlite.specs.Held.{state}
 use Rattle.sql_entries.proofs.CauseLemmas.{memory_caused}
 use Rattle.sql_entries.proofs.FormedLemmas.{spelt_at}
 use Rattle.std.proofs.Common.{◌≡◌, Option, IfOk, subst, ◌∙◌}
@@ -14,5 +13,5 @@ returns-clause-value g c clean is_open has register are =
 
 pub returns-clause-blame : goal.returns-clause-blame
 returns-clause-blame g c clean is_open has register are formed =
-    memory_caused (state g.S.Store c.args.conn.now) (state g.S.Store c.entry_rows.new.conn) c.first_entry.result
+    memory_caused (g.S.Session.state c.args.conn.now) (g.S.Session.state c.entry_rows.new.conn) c.first_entry.result
     (c.first_entry.ensures.all (kept_at register c.args.number) (c.deref.ensures.value ∙ c.in_ok-rows.ensures.shown clean is_open has register are) (spelt_at register c.args.number formed))

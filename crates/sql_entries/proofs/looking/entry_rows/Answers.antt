@@ -1,4 +1,3 @@
-use Rattle.sqlite.specs.Held.{state}
 use Rattle.sql_entries.proofs.TextLemmas.{entries}
 use Rattle.sql_entries.proofs.EffectLemmas.{entry_answers}
 use Rattle.sql_entries.proofs.CauseLemmas.{entry_caused}
@@ -9,8 +8,8 @@ query-requires g c = record { query = entries }
 
 pub returns-clause-shown : goal.returns-clause-shown
 returns-clause-shown g c clean is_open has register are =
-    entry_answers (state g.S.Store c.args.conn.now) (state g.S.Store c.query.new.conn) register has are c.args.number c.query.result (rw c.integer.ensures at (c.query.ensures.shown clean))
+    entry_answers (g.S.Session.state c.args.conn.now) (g.S.Session.state c.query.new.conn) register has are c.args.number c.query.result (rw c.integer.ensures at (c.query.ensures.shown clean))
 
 pub returns-clause-blame : goal.returns-clause-blame
 returns-clause-blame g c clean is_open has =
-    entry_caused (state g.S.Store c.args.conn.now) (state g.S.Store c.query.new.conn) has is_open c.args.number c.query.result (rw c.integer.ensures at (c.query.ensures.fails clean))
+    entry_caused (g.S.Session.state c.args.conn.now) (g.S.Session.state c.query.new.conn) has is_open c.args.number c.query.result (rw c.integer.ensures at (c.query.ensures.fails clean))

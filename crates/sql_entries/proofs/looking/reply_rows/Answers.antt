@@ -1,4 +1,3 @@
-use Rattle.sqlite.specs.Held.{state}
 use Rattle.sql_entries.proofs.TextLemmas.{replies}
 use Rattle.sql_entries.proofs.EffectLemmas.{reply_answers}
 use Rattle.sql_entries.proofs.CauseLemmas.{reply_caused}
@@ -9,8 +8,8 @@ query-requires g c = record { query = replies }
 
 pub returns-clause-shown : goal.returns-clause-shown
 returns-clause-shown g c clean is_open has register are =
-    reply_answers (state g.S.Store c.args.conn.now) (state g.S.Store c.query.new.conn) register has are c.args.number c.query.result (rw c.integer.ensures at (c.query.ensures.shown clean))
+    reply_answers (g.S.Session.state c.args.conn.now) (g.S.Session.state c.query.new.conn) register has are c.args.number c.query.result (rw c.integer.ensures at (c.query.ensures.shown clean))
 
 pub returns-clause-blame : goal.returns-clause-blame
 returns-clause-blame g c clean is_open has =
-    reply_caused (state g.S.Store c.args.conn.now) (state g.S.Store c.query.new.conn) has is_open c.args.number c.query.result (rw c.integer.ensures at (c.query.ensures.fails clean))
+    reply_caused (g.S.Session.state c.args.conn.now) (g.S.Session.state c.query.new.conn) has is_open c.args.number c.query.result (rw c.integer.ensures at (c.query.ensures.fails clean))

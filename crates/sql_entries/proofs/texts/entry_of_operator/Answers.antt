@@ -1,6 +1,5 @@
 use Rattle.std.proofs.Common.{[], ◌∷◌, refl}
 use Rattle.sqlite.specs.declared.types.Value.TheVariants.{Text as Words}
-use Rattle.sqlite.specs.Held.{state}
 use Rattle.sql_entries.proofs.FindingTexts.{finds_entry_of_operator, entry_of_operator_whole}
 use Rattle.sql_entries.proofs.LookLemmas.{operators_number}
 use Rattle.sql_entries.proofs.CauseLemmas.{finds_caused}
@@ -11,10 +10,10 @@ query-requires g c = record { query = finds_entry_of_operator.query }
 
 pub returns-clause-shown : goal.returns-clause-shown
 returns-clause-shown g c clean is_open has register are =
-    operators_number (state g.S.Store c.args.conn.now) (state g.S.Store c.query.new.conn) has register are c.args.reference c.query.result
+    operators_number (g.S.Session.state c.args.conn.now) (g.S.Session.state c.query.new.conn) has register are c.args.reference c.query.result
     (rw c.as_bytes.ensures.bytes at (c.query.ensures.shown clean))
 
 pub returns-clause-blame : goal.returns-clause-blame
 returns-clause-blame g c clean is_open has =
-    finds_caused (state g.S.Store c.args.conn.now) (state g.S.Store c.query.new.conn) has is_open finds_entry_of_operator (Words c.args.reference ∷ []) entry_of_operator_whole refl c.query.result
+    finds_caused (g.S.Session.state c.args.conn.now) (g.S.Session.state c.query.new.conn) has is_open finds_entry_of_operator (Words c.args.reference ∷ []) entry_of_operator_whole refl c.query.result
     (rw c.as_bytes.ensures.bytes at (c.query.ensures.fails clean))

@@ -1,6 +1,5 @@
 use Rattle.std.proofs.Common.{Err, Ok, ℕ, ◌≡◌, ◌+◌, ◌∙◌, ap, length, arith, refl, subst, sym}
 use Rattle.sqlite.specs.Effect.{Database}
-use Rattle.sqlite.specs.Held.{state}
 use Rattle.sqlite.specs.State.{HasCleanDisk}
 use Rattle.sql_entries.specs.Entries.{AreEntries, EntryAdded}
 use Rattle.sql_tables.specs.Ends.{ForCause}
@@ -18,9 +17,9 @@ returns-in_err-number-clause-blame g c clean is_open has register are fits forme
 
 pub returns-in_err-add_entry-clause-blame : goal.returns-in_err-add_entry-clause-blame
 returns-in_err-add_entry-clause-blame g c clean is_open has register are fits formed unused =
-    let s0 = state g.S.Store c.args.conn.now in
-    let s1 = state g.S.Store c.entry_count.new.conn in
-    let s2 = state g.S.Store c.add_entry.new.conn in
+    let s0 = g.S.Session.state c.args.conn.now in
+    let s1 = g.S.Session.state c.entry_count.new.conn in
+    let s2 = g.S.Session.state c.add_entry.new.conn in
     let e = c.in_err-add_entry.field-0.0 in
     let clean1 : HasCleanDisk s1 = was_clean _ _ c.in_err-add_entry.ensures.write.later clean in
     let count : c.in_ok-count.count ≡ length register = c.in_ok-count.ensures.value clean1 is_open has register are in
@@ -34,8 +33,8 @@ returns-in_err-count-clause-added g c clean is_open has register are = no_value 
 
 pub returns-in_err-count-clause-write : goal.returns-in_err-count-clause-write
 returns-in_err-count-clause-write g c =
-    let s0 = state g.S.Store c.args.conn.now in
-    let s1 = state g.S.Store c.entry_count.new.conn in
+    let s0 = g.S.Session.state c.args.conn.now in
+    let s1 = g.S.Session.state c.entry_count.new.conn in
     write_handed c.from_residual.result c.in_err-count.field-0.0 c.from_residual.ensures.1 ℕ s0 s1 (look_write (Err c.in_err-count.field-0.0) s0 s1 c.in_err-count.ensures.look)
 
 pub returns-in_err-number-clause-added : goal.returns-in_err-number-clause-added
@@ -46,17 +45,17 @@ returns-in_err-add_entry-clause-added g c clean is_open has register are = no_va
 
 pub returns-in_err-add_entry-clause-write : goal.returns-in_err-add_entry-clause-write
 returns-in_err-add_entry-clause-write g c =
-    let s0 = state g.S.Store c.args.conn.now in
-    let s1 = state g.S.Store c.entry_count.new.conn in
-    let s2 = state g.S.Store c.add_entry.new.conn in
+    let s0 = g.S.Session.state c.args.conn.now in
+    let s1 = g.S.Session.state c.entry_count.new.conn in
+    let s2 = g.S.Session.state c.add_entry.new.conn in
     write_fell c.from_residual-in_err-add_entry.result c.in_err-add_entry.field-0.0 c.from_residual-in_err-add_entry.ensures.1 (Unit {0}) c.in_ok-count.count s0 s1 s2
     (look_write (Ok c.in_ok-count.count) s0 s1 c.in_ok-count.ensures.look) c.in_err-add_entry.ensures.write
 
 pub returns-clause-write : goal.returns-clause-write
 returns-clause-write g c =
-    let s0 = state g.S.Store c.args.conn.now in
-    let s1 = state g.S.Store c.entry_count.new.conn in
-    let s2 = state g.S.Store c.add_entry.new.conn in
+    let s0 = g.S.Session.state c.args.conn.now in
+    let s1 = g.S.Session.state c.entry_count.new.conn in
+    let s2 = g.S.Session.state c.add_entry.new.conn in
     write_ok c.in_ok-add_entry.field-0 c.in_ok-number.number s0 s2 (write_then c.in_ok-count.count (Ok c.in_ok-add_entry.field-0) s0 s1 s2 (look_write (Ok c.in_ok-count.count) s0 s1 c.in_ok-count.ensures.look) c.in_ok-add_entry.ensures.write)
 
 pub returns-in_err-count-clause-within : goal.returns-in_err-count-clause-within
@@ -79,7 +78,7 @@ returns-in_err-add_entry-clause-small g c = no_value c.from_residual-in_err-add_
 
 pub returns-in_err-count-clause-blame : goal.returns-in_err-count-clause-blame
 returns-in_err-count-clause-blame g c clean is_open has register are fits formed unused =
-    on_error c.from_residual.result c.in_err-count.field-0.0 (ForCause (state g.S.Store c.args.conn.now) (state g.S.Store c.entry_count.new.conn)) c.from_residual.ensures.1 (c.in_err-count.ensures.blame clean is_open has register are)
+    on_error c.from_residual.result c.in_err-count.field-0.0 (ForCause (g.S.Session.state c.args.conn.now) (g.S.Session.state c.entry_count.new.conn)) c.from_residual.ensures.1 (c.in_err-count.ensures.blame clean is_open has register are)
 
 pub returns-clause-within : goal.returns-clause-within
 returns-clause-within g c = c.in_ok-number.ensures.small
@@ -89,8 +88,8 @@ returns-clause-blame g c clean is_open has register are fits formed unused = tt
 
 pub returns-in_err-number-clause-write : goal.returns-in_err-number-clause-write
 returns-in_err-number-clause-write g c =
-    let s0 = state g.S.Store c.args.conn.now in
-    let s1 = state g.S.Store c.entry_count.new.conn in
+    let s0 = g.S.Session.state c.args.conn.now in
+    let s1 = g.S.Session.state c.entry_count.new.conn in
     write_fell c.from_residual-in_err-number.result c.in_err-number.field-0.0 c.from_residual-in_err-number.ensures.1 ℕ c.in_ok-count.count s0 s1 s1 (look_write (Ok c.in_ok-count.count) s0 s1 c.in_ok-count.ensures.look) (write_none (Err c.in_err-number.field-0.0) c.in_err-number.field-0.0 refl s1)
 
 pub returns-clause-small : goal.returns-clause-small
@@ -101,9 +100,9 @@ add_entry-requires g c = number_fits c.in_ok-number.number c.in_ok-number.ensure
 
 pub returns-clause-added : goal.returns-clause-added
 returns-clause-added g c clean is_open has register are =
-    let s0 = state g.S.Store c.args.conn.now in
-    let s1 = state g.S.Store c.entry_count.new.conn in
-    let s2 = state g.S.Store c.add_entry.new.conn in
+    let s0 = g.S.Session.state c.args.conn.now in
+    let s1 = g.S.Session.state c.entry_count.new.conn in
+    let s2 = g.S.Session.state c.add_entry.new.conn in
     let clean1 : HasCleanDisk s1 = was_clean _ _ c.in_ok-add_entry.ensures.write.later clean in
     let count : c.in_ok-count.count ≡ length register = c.in_ok-count.ensures.value clean1 is_open has register are in
     let number : c.in_ok-number.number ≡ length register + 1 = c.in_ok-number.ensures.next ∙ ap (λ n. n + 1) count in

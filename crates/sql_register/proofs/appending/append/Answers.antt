@@ -1,5 +1,4 @@
 use Rattle.std.proofs.Common.{arith, ◌<◌, Ok, Err, Result, OnOk, ◌≡◌, ℕ, ◌+◌, length, sym, subst}
-use Rattle.sqlite.specs.Held.{state}
 use Rattle.sqlite.specs.State.{State, HasCleanDisk}
 use Rattle.sqlite.specs.declared.error.Error.{Error}
 use Rattle.desk_register.specs.Changes.{CanAppend, appended, standing_at}
@@ -29,8 +28,8 @@ becomes old d1 new e i reply room n (Err f) desk is can added at stays stood = t
 
 pub returns-in_ok-number-in-Instruct-clause-changed : goal.returns-in_ok-number-in-Instruct-clause-changed
 returns-in_ok-number-in-Instruct-clause-changed g c clean is_open has desk room can =
-    let s0 = state g.S.Store c.args.conn.now in
-    let s1 = state g.S.Store c.add_row.new.conn in
+    let s0 = g.S.Session.state c.args.conn.now in
+    let s1 = g.S.Session.state c.add_row.new.conn in
     let register = (content_in s0.now).register in
     let e = c.args.entry.now in
     let i : Instructed = record { sender = c.in-Instruct.sender; instruction = c.in-Instruct.instruction } in
@@ -41,17 +40,17 @@ returns-in_ok-number-in-Instruct-clause-changed g c clean is_open has desk room 
     let both = c.in_ok-number-in-Instruct.ensures.added clean1 is_open has register desk.entries in
     let added = row_added s0.now s1.now register e reply n both c.in_ok-number-in-Instruct.ensures.within c.in_ok-number-in-Instruct.ensures.formed c.in_ok-number-in-Instruct.ensures.short in
     let stood = c.add_standing.ensures.changed clean stays1.is_open stays1.schema (instructed_standings s0.now s1.now e i reply room desk c.in-Instruct.is can added) in
-    becomes s0 s1 (state g.S.Store c.add_standing.new.conn) e i reply room n c.add_standing.result desk c.in-Instruct.is can added both.0 (c.add_standing.ensures.write.ok clean stays1.is_open stays1.schema) stood
+    becomes s0 s1 (g.S.Session.state c.add_standing.new.conn) e i reply room n c.add_standing.result desk c.in-Instruct.is can added both.0 (c.add_standing.ensures.write.ok clean stays1.is_open stays1.schema) stood
 
 pub returns-in_ok-number-in-Instruct-clause-write : goal.returns-in_ok-number-in-Instruct-clause-write
 returns-in_ok-number-in-Instruct-clause-write g c =
-    write_then c.in_ok-number-in-Instruct.number c.add_standing.result (state g.S.Store c.args.conn.now) (state g.S.Store c.add_row.new.conn) (state g.S.Store c.add_standing.new.conn) c.in_ok-number-in-Instruct.ensures.write c.add_standing.ensures.write
+    write_then c.in_ok-number-in-Instruct.number c.add_standing.result (g.S.Session.state c.args.conn.now) (g.S.Session.state c.add_row.new.conn) (g.S.Session.state c.add_standing.new.conn) c.in_ok-number-in-Instruct.ensures.write c.add_standing.ensures.write
 
 pub returns-in_ok-number-in-Instruct-clause-blame : goal.returns-in_ok-number-in-Instruct-clause-blame
 returns-in_ok-number-in-Instruct-clause-blame g c clean is_open has desk room small can =
-    let s0 = state g.S.Store c.args.conn.now in
-    let s1 = state g.S.Store c.add_row.new.conn in
-    let s2 = state g.S.Store c.add_standing.new.conn in
+    let s0 = g.S.Session.state c.args.conn.now in
+    let s1 = g.S.Session.state c.add_row.new.conn in
+    let s2 = g.S.Session.state c.add_standing.new.conn in
     let register = (content_in s0.now).register in
     let e = c.args.entry.now in
     let i : Instructed = record { sender = c.in-Instruct.sender; instruction = c.in-Instruct.instruction } in
@@ -67,13 +66,13 @@ returns-in_ok-number-in-Instruct-clause-blame g c clean is_open has desk room sm
 
 pub returns-in-Cancel-clause-changed : goal.returns-in-Cancel-clause-changed
 returns-in-Cancel-clause-changed g c clean is_open has desk room can =
-    let before = content_in (state g.S.Store c.args.conn.now).now in
-    subst (λ e. OnOk c.append_cancel.result (Becomes (state g.S.Store c.append_cancel.new.conn).now (appended e c.args.reply.now before))) (sym c.in-Cancel.is)
+    let before = content_in (g.S.Session.state c.args.conn.now).now in
+    subst (λ e. OnOk c.append_cancel.result (Becomes (g.S.Session.state c.append_cancel.new.conn).now (appended e c.args.reply.now before))) (sym c.in-Cancel.is)
     (c.append_cancel.ensures.changed clean is_open has desk room (subst (λ e. CanAppend room e c.args.reply.now before) c.in-Cancel.is can))
 
 pub returns-in-Cancel-clause-blame : goal.returns-in-Cancel-clause-blame
 returns-in-Cancel-clause-blame g c clean is_open has desk room small can =
-    let before = content_in (state g.S.Store c.args.conn.now).now in
+    let before = content_in (g.S.Session.state c.args.conn.now).now in
     c.append_cancel.ensures.blame clean is_open has desk room small (subst (λ e. CanAppend room e c.args.reply.now before) c.in-Cancel.is can)
 
 pub returns-in-Cancel-clause-write : goal.returns-in-Cancel-clause-write
@@ -84,14 +83,14 @@ returns-in_err-number-in-Instruct-clause-changed g c clean is_open has desk room
 
 pub returns-in_err-number-in-Instruct-clause-write : goal.returns-in_err-number-in-Instruct-clause-write
 returns-in_err-number-in-Instruct-clause-write g c =
-    write_handed c.from_residual.result c.in_err-number-in-Instruct.field-0.0 c.from_residual.ensures.1 ℕ (state g.S.Store c.args.conn.now) (state g.S.Store c.add_row.new.conn) c.in_err-number-in-Instruct.ensures.write
+    write_handed c.from_residual.result c.in_err-number-in-Instruct.field-0.0 c.from_residual.ensures.1 ℕ (g.S.Session.state c.args.conn.now) (g.S.Session.state c.add_row.new.conn) c.in_err-number-in-Instruct.ensures.write
 
 pub returns-in_err-number-in-Instruct-clause-blame : goal.returns-in_err-number-in-Instruct-clause-blame
 returns-in_err-number-in-Instruct-clause-blame g c clean is_open has desk room small can =
-    let s0 = state g.S.Store c.args.conn.now in
+    let s0 = g.S.Session.state c.args.conn.now in
     let has_room = can.has_room in
     let fits : length (content_in s0.now).register + 1 < 1_000_000_000 = omega (arith, has_room, small) in
-    on_error c.from_residual.result c.in_err-number-in-Instruct.field-0.0 (ForCause s0 (state g.S.Store c.add_row.new.conn)) c.from_residual.ensures.1
+    on_error c.from_residual.result c.in_err-number-in-Instruct.field-0.0 (ForCause s0 (g.S.Session.state c.add_row.new.conn)) c.from_residual.ensures.1
     (c.in_err-number-in-Instruct.ensures.blame clean is_open has (content_in s0.now).register desk.entries fits desk.formed can.new_key)
 
 pub returns-in-Participant-clause-write : goal.returns-in-Participant-clause-write

@@ -1,6 +1,5 @@
 use Rattle.std.proofs.Common.{Ok, Err, Result, OnOk, Option, Some, length, true, ◌≡◌, ◌∙◌, ℕ, List, ap, subst, sym, arith, ◌≢◌, ◌+◌, ◌<◌, refl}
 use Rattle.sqlite.specs.Effect.{Database}
-use Rattle.sqlite.specs.Held.{state}
 use Rattle.sqlite.specs.State.{State, HasCleanDisk}
 use Rattle.sqlite.specs.declared.error.Error.{Error}
 use Rattle.sql_register.specs.Appending.{RowAdded}
@@ -36,10 +35,10 @@ becomes old d0 d1 new sender order reply room k (Err e) same desk can added is s
 
 pub returns-clause-changed : goal.returns-clause-changed
 returns-clause-changed g c clean is_open has desk room can =
-    let old = state g.S.Store c.args.conn.now in
-    let d0 = state g.S.Store c.number_of.new.conn in
-    let d1 = state g.S.Store c.add_row.new.conn in
-    let new = state g.S.Store c.ask.new.conn in
+    let old = g.S.Session.state c.args.conn.now in
+    let d0 = g.S.Session.state c.number_of.new.conn in
+    let d1 = g.S.Session.state c.add_row.new.conn in
+    let new = g.S.Session.state c.ask.new.conn in
     let sender = c.args.sender in
     let order = c.args.order.now in
     let reply = c.args.reply.now in
@@ -58,9 +57,9 @@ returns-clause-changed g c clean is_open has desk room can =
 
 pub returns-in_err-add_row-clause-write : goal.returns-in_err-add_row-clause-write
 returns-in_err-add_row-clause-write g c =
-    let old = state g.S.Store c.args.conn.now in
-    let d0 = state g.S.Store c.number_of.new.conn in
-    let d1 = state g.S.Store c.add_row.new.conn in
+    let old = g.S.Session.state c.args.conn.now in
+    let d0 = g.S.Session.state c.number_of.new.conn in
+    let d1 = g.S.Session.state c.add_row.new.conn in
     write_fell c.from_residual-in_err-add_row.result c.in_err-add_row.field-0.0 c.from_residual-in_err-add_row.ensures.1 ℕ c.in_ok-number.field-0 old d0 d1 (look_write (Ok c.in_ok-number.field-0) old d0 c.in_ok-number.ensures.look) c.in_err-add_row.ensures.write
 
 pub returns-in_err-number-clause-changed : goal.returns-in_err-number-clause-changed
@@ -68,8 +67,8 @@ returns-in_err-number-clause-changed g c clean is_open has desk room can = not_d
 
 pub returns-in_err-number-clause-write : goal.returns-in_err-number-clause-write
 returns-in_err-number-clause-write g c =
-    let old = state g.S.Store c.args.conn.now in
-    let d0 = state g.S.Store c.number_of.new.conn in
+    let old = g.S.Session.state c.args.conn.now in
+    let d0 = g.S.Session.state c.number_of.new.conn in
     let e = c.in_err-number.field-0.0 in
     write_handed c.from_residual.result e c.from_residual.ensures.1 (Option ℕ) old d0 (look_write (Err e) old d0 c.in_err-number.ensures.look)
 
@@ -78,8 +77,8 @@ returns-in_default-clause-changed g c clean is_open has desk room can = tt
 
 pub returns-in_default-clause-write : goal.returns-in_default-clause-write
 returns-in_default-clause-write g c =
-    let old = state g.S.Store c.args.conn.now in
-    let d0 = state g.S.Store c.number_of.new.conn in
+    let old = g.S.Session.state c.args.conn.now in
+    let d0 = g.S.Session.state c.number_of.new.conn in
     look_write _ old d0 (look_as c.in_ok-number.field-0 _ old d0 c.in_ok-number.ensures.look)
 
 pub returns-in_err-named-clause-changed : goal.returns-in_err-named-clause-changed
@@ -87,8 +86,8 @@ returns-in_err-named-clause-changed g c clean is_open has desk room can = not_do
 
 pub returns-in_err-named-clause-write : goal.returns-in_err-named-clause-write
 returns-in_err-named-clause-write g c =
-    let old = state g.S.Store c.args.conn.now in
-    let d0 = state g.S.Store c.number_of.new.conn in
+    let old = g.S.Session.state c.args.conn.now in
+    let d0 = g.S.Session.state c.number_of.new.conn in
     let e = c.in_err-named.field-0.0 in
     write_handed c.from_residual-in_err-named.result e c.from_residual-in_err-named.ensures.1 (Unit {0}) old d0 (look_write (Err e) old d0 (look_as c.in_ok-number.field-0 e old d0 c.in_ok-number.ensures.look))
 
@@ -97,29 +96,29 @@ returns-in_err-add_row-clause-changed g c clean is_open has desk room can = not_
 
 pub returns-clause-write : goal.returns-clause-write
 returns-clause-write g c =
-    let old = state g.S.Store c.args.conn.now in
-    let d0 = state g.S.Store c.number_of.new.conn in
-    let d1 = state g.S.Store c.add_row.new.conn in
-    let new = state g.S.Store c.ask.new.conn in
+    let old = g.S.Session.state c.args.conn.now in
+    let d0 = g.S.Session.state c.number_of.new.conn in
+    let d1 = g.S.Session.state c.add_row.new.conn in
+    let new = g.S.Session.state c.ask.new.conn in
     write_then c.in_ok-add_row.field-0 c.ask.result old d1 new (write_then c.in_ok-number.field-0 (Ok c.in_ok-add_row.field-0) old d0 d1 (look_write (Ok c.in_ok-number.field-0) old d0 c.in_ok-number.ensures.look) c.in_ok-add_row.ensures.write) c.ask.ensures.write
 
 pub returns-in_err-number-clause-blame : goal.returns-in_err-number-clause-blame
 returns-in_err-number-clause-blame g c clean is_open has desk room small can =
-    let s0 = state g.S.Store c.args.conn.now in
+    let s0 = g.S.Session.state c.args.conn.now in
     let e = c.in_err-number.field-0.0 in
-    on_error c.from_residual.result e (ForCause s0 (state g.S.Store c.number_of.new.conn)) c.from_residual.ensures.1
+    on_error c.from_residual.result e (ForCause s0 (g.S.Session.state c.number_of.new.conn)) c.from_residual.ensures.1
     (c.in_err-number.ensures.blame clean is_open has (content_in s0.now).register desk.entries)
 
 pub returns-in_default-clause-blame : goal.returns-in_default-clause-blame
 returns-in_default-clause-blame g c clean is_open has desk room small can =
-    let s0 = state g.S.Store c.args.conn.now in
+    let s0 = g.S.Session.state c.args.conn.now in
     let found = c.in_ok-number.ensures.value clean is_open has (content_in s0.now).register desk.entries in
     absurd (names_known s0.now c.args.sender c.args.order.now c.args.reply.now room desk can (sym found ∙ c.in_default.is))
 
 pub returns-in_err-named-clause-blame : goal.returns-in_err-named-clause-blame
 returns-in_err-named-clause-blame g c clean is_open has desk room small can =
-    let s0 = state g.S.Store c.args.conn.now in
-    let d0 = state g.S.Store c.number_of.new.conn in
+    let s0 = g.S.Session.state c.args.conn.now in
+    let d0 = g.S.Session.state c.number_of.new.conn in
     let e = c.in_err-named.field-0.0 in
     let found = c.in_ok-number.ensures.value clean is_open has (content_in s0.now).register desk.entries in
     let key = sym found ∙ c.in-Some.is in
@@ -129,9 +128,9 @@ returns-in_err-named-clause-blame g c clean is_open has desk room small can =
 
 pub returns-in_err-add_row-clause-blame : goal.returns-in_err-add_row-clause-blame
 returns-in_err-add_row-clause-blame g c clean is_open has desk room small can =
-    let s0 = state g.S.Store c.args.conn.now in
-    let d0 = state g.S.Store c.number_of.new.conn in
-    let d1 = state g.S.Store c.add_row.new.conn in
+    let s0 = g.S.Session.state c.args.conn.now in
+    let d0 = g.S.Session.state c.number_of.new.conn in
+    let d1 = g.S.Session.state c.add_row.new.conn in
     let register = (content_in s0.now).register in
     let e = c.in_err-add_row.field-0.0 in
     let has_room = can.has_room in
@@ -142,10 +141,10 @@ returns-in_err-add_row-clause-blame g c clean is_open has desk room small can =
 
 pub returns-clause-blame : goal.returns-clause-blame
 returns-clause-blame g c clean is_open has desk room small can =
-    let s0 = state g.S.Store c.args.conn.now in
-    let d0 = state g.S.Store c.number_of.new.conn in
-    let d1 = state g.S.Store c.add_row.new.conn in
-    let s3 = state g.S.Store c.ask.new.conn in
+    let s0 = g.S.Session.state c.args.conn.now in
+    let d0 = g.S.Session.state c.number_of.new.conn in
+    let d1 = g.S.Session.state c.add_row.new.conn in
+    let s3 = g.S.Session.state c.ask.new.conn in
     let sender = c.args.sender in
     let order = c.args.order.now in
     let reply = c.args.reply.now in

@@ -1,5 +1,4 @@
 use Rattle.std.proofs.Common.{Ok, Err, Result, OnOk, ◌∙◌, ℕ, ◌+◌, ◌<◌, length, sym, arith}
-use Rattle.sqlite.specs.Held.{state}
 use Rattle.sqlite.specs.State.{State, HasCleanDisk}
 use Rattle.sqlite.specs.declared.error.Error.{Error}
 use Rattle.desk_register.specs.Changes.{appended}
@@ -35,21 +34,21 @@ pub returns-in_err-add_row-clause-changed : goal.returns-in_err-add_row-clause-c
 returns-in_err-add_row-clause-changed g c clean is_open has desk from room can = not_done c.from_residual.result c.in_err-add_row.field-0.0 c.from_residual.ensures.1 _
 
 pub returns-in_err-add_row-clause-write : goal.returns-in_err-add_row-clause-write
-returns-in_err-add_row-clause-write g c = write_handed c.from_residual.result c.in_err-add_row.field-0.0 c.from_residual.ensures.1 ℕ (state g.S.Store c.args.conn.now) (state g.S.Store c.add_row.new.conn) c.in_err-add_row.ensures.write
+returns-in_err-add_row-clause-write g c = write_handed c.from_residual.result c.in_err-add_row.field-0.0 c.from_residual.ensures.1 ℕ (g.S.Session.state c.args.conn.now) (g.S.Session.state c.add_row.new.conn) c.in_err-add_row.ensures.write
 
 pub returns-in_err-add_row-clause-blame : goal.returns-in_err-add_row-clause-blame
 returns-in_err-add_row-clause-blame g c clean is_open has desk room small can =
-    let s0 = state g.S.Store c.args.conn.now in
+    let s0 = g.S.Session.state c.args.conn.now in
     let e = c.in_err-add_row.field-0.0 in
     let has_room = can.has_room in
     let fits : length (content_in s0.now).register + 1 < 1_000_000_000 = omega (arith, has_room, small) in
-    on_error c.from_residual.result e (ForCause s0 (state g.S.Store c.add_row.new.conn)) c.from_residual.ensures.1
+    on_error c.from_residual.result e (ForCause s0 (g.S.Session.state c.add_row.new.conn)) c.from_residual.ensures.1
     (c.in_err-add_row.ensures.blame clean is_open has (content_in s0.now).register desk.entries fits desk.formed can.new_key)
 
 pub returns-in_default-clause-changed : goal.returns-in_default-clause-changed
 returns-in_default-clause-changed g c clean is_open has desk from room can =
-    let s0 = state g.S.Store c.args.conn.now in
-    let s1 = state g.S.Store c.add_row.new.conn in
+    let s0 = g.S.Session.state c.args.conn.now in
+    let s1 = g.S.Session.state c.add_row.new.conn in
     let register = (content_in s0.now).register in
     let e = c.args.entry.now in
     let reply = c.args.reply.now in
@@ -57,7 +56,7 @@ returns-in_default-clause-changed g c clean is_open has desk from room can =
     alone_becomes s0.now s1.now e reply added room desk (posts_nothing e from (sym c.posting_of.ensures ∙ c.in_default.is)) can (c.in_ok-add_row.ensures.write.ok clean is_open has).schema
 
 pub returns-in_default-clause-write : goal.returns-in_default-clause-write
-returns-in_default-clause-write g c = write_ok _ _ (state g.S.Store c.args.conn.now) (state g.S.Store c.add_row.new.conn) c.in_ok-add_row.ensures.write
+returns-in_default-clause-write g c = write_ok _ _ (g.S.Session.state c.args.conn.now) (g.S.Session.state c.add_row.new.conn) c.in_ok-add_row.ensures.write
 
 pub returns-in_default-clause-blame : goal.returns-in_default-clause-blame
 returns-in_default-clause-blame g c clean is_open has desk room small can = tt
@@ -67,16 +66,16 @@ returns-in_err-post-clause-changed g c clean is_open has desk from room can = no
 
 pub returns-in_err-post-clause-write : goal.returns-in_err-post-clause-write
 returns-in_err-post-clause-write g c =
-    let s0 = state g.S.Store c.args.conn.now in
-    let s1 = state g.S.Store c.add_row.new.conn in
-    let s2 = state g.S.Store c.post.new.conn in
+    let s0 = g.S.Session.state c.args.conn.now in
+    let s1 = g.S.Session.state c.add_row.new.conn in
+    let s2 = g.S.Session.state c.post.new.conn in
     write_fell c.from_residual-in_err-post.result c.in_err-post.field-0.0 c.from_residual-in_err-post.ensures.1 (Unit {0}) c.in_ok-add_row.field-0 s0 s1 s2 c.in_ok-add_row.ensures.write c.in_err-post.ensures.write
 
 pub returns-in_err-post-clause-blame : goal.returns-in_err-post-clause-blame
 returns-in_err-post-clause-blame g c clean is_open has desk room small can =
-    let s0 = state g.S.Store c.args.conn.now in
-    let s1 = state g.S.Store c.add_row.new.conn in
-    let s2 = state g.S.Store c.post.new.conn in
+    let s0 = g.S.Session.state c.args.conn.now in
+    let s1 = g.S.Session.state c.add_row.new.conn in
+    let s2 = g.S.Session.state c.post.new.conn in
     let register = (content_in s0.now).register in
     let entry = c.args.entry.now in
     let reply = c.args.reply.now in
@@ -93,10 +92,10 @@ returns-in_err-post-clause-blame g c clean is_open has desk room small can =
 
 pub returns-clause-changed : goal.returns-clause-changed
 returns-clause-changed g c clean is_open has desk from room can =
-    let s0 = state g.S.Store c.args.conn.now in
-    let s1 = state g.S.Store c.add_row.new.conn in
-    let s2 = state g.S.Store c.post.new.conn in
-    let s3 = state g.S.Store c.post-2.new.conn in
+    let s0 = g.S.Session.state c.args.conn.now in
+    let s1 = g.S.Session.state c.add_row.new.conn in
+    let s2 = g.S.Session.state c.post.new.conn in
+    let s3 = g.S.Session.state c.post-2.new.conn in
     let register = (content_in s0.now).register in
     let entry = c.args.entry.now in
     let reply = c.args.reply.now in
@@ -113,18 +112,18 @@ returns-clause-changed g c clean is_open has desk from room can =
 
 pub returns-clause-write : goal.returns-clause-write
 returns-clause-write g c =
-    let s0 = state g.S.Store c.args.conn.now in
-    let s1 = state g.S.Store c.add_row.new.conn in
-    let s2 = state g.S.Store c.post.new.conn in
-    let s3 = state g.S.Store c.post-2.new.conn in
+    let s0 = g.S.Session.state c.args.conn.now in
+    let s1 = g.S.Session.state c.add_row.new.conn in
+    let s2 = g.S.Session.state c.post.new.conn in
+    let s3 = g.S.Session.state c.post-2.new.conn in
     write_then c.in_ok-post.field-0 c.post-2.result s0 s2 s3 (write_then c.in_ok-add_row.field-0 (Ok c.in_ok-post.field-0) s0 s1 s2 c.in_ok-add_row.ensures.write c.in_ok-post.ensures.write) c.post-2.ensures.write
 
 pub returns-clause-blame : goal.returns-clause-blame
 returns-clause-blame g c clean is_open has desk room small can =
-    let s0 = state g.S.Store c.args.conn.now in
-    let s1 = state g.S.Store c.add_row.new.conn in
-    let s2 = state g.S.Store c.post.new.conn in
-    let s3 = state g.S.Store c.post-2.new.conn in
+    let s0 = g.S.Session.state c.args.conn.now in
+    let s1 = g.S.Session.state c.add_row.new.conn in
+    let s2 = g.S.Session.state c.post.new.conn in
+    let s3 = g.S.Session.state c.post-2.new.conn in
     let register = (content_in s0.now).register in
     let entry = c.args.entry.now in
     let reply = c.args.reply.now in

@@ -1,5 +1,4 @@
 use Rattle.std.proofs.Common.{Bool, OnOk, arith, subst, sym}
-use Rattle.sqlite.specs.Held.{state}
 use Rattle.sql_rows.specs.Amounts.{amount_at}
 use Rattle.sql_rows.specs.Changes.{Takes}
 use Rattle.sql_rows.proofs.AmountLemmas.{short_less}
@@ -14,14 +13,14 @@ use Rattle.sql_register.proofs.appending.post.Goals as goal
 
 pub returns-in-Credit-clause-changed : goal.returns-in-Credit-clause-changed
 returns-in-Credit-clause-changed g c clean is_open has amounts =
-    let old = (state g.S.Store c.args.conn.now).now in
-    let new = (state g.S.Store c.put.new.conn).now in
+    let old = (g.S.Session.state c.args.conn.now).now in
+    let new = (g.S.Session.state c.put.new.conn).now in
     subst (λ (d : Direction). OnOk c.put.result (Posts d old new c.args.key.now c.args.amount)) (sym c.in-Credit.is)
     (credited old new c.args.key.now c.args.amount c.put.result (c.put.ensures.changed clean is_open has amounts))
 
 pub returns-in-Credit-clause-blame : goal.returns-in-Credit-clause-blame
 returns-in-Credit-clause-blame g c clean is_open has amounts can =
-    c.put.ensures.blame clean is_open has amounts (subst (λ (d : Direction). CanPost d (state g.S.Store c.args.conn.now).now c.args.key.now c.args.amount) c.in-Credit.is can)
+    c.put.ensures.blame clean is_open has amounts (subst (λ (d : Direction). CanPost d (g.S.Session.state c.args.conn.now).now c.args.key.now c.args.amount) c.in-Credit.is can)
 
 pub returns-in-Credit-clause-write : goal.returns-in-Credit-clause-write
 returns-in-Credit-clause-write g c = c.put.ensures.write
@@ -30,21 +29,21 @@ pub returns-in_err-take-in-Debit-clause-changed : goal.returns-in_err-take-in-De
 returns-in_err-take-in-Debit-clause-changed g c clean is_open has amounts = not_done c.from_residual.result c.in_err-take-in-Debit.field-0.0 c.from_residual.ensures.1 _
 
 pub returns-in_err-take-in-Debit-clause-write : goal.returns-in_err-take-in-Debit-clause-write
-returns-in_err-take-in-Debit-clause-write g c = write_handed c.from_residual.result c.in_err-take-in-Debit.field-0.0 c.from_residual.ensures.1 Bool (state g.S.Store c.args.conn.now) (state g.S.Store c.take.new.conn) c.in_err-take-in-Debit.ensures.write
+returns-in_err-take-in-Debit-clause-write g c = write_handed c.from_residual.result c.in_err-take-in-Debit.field-0.0 c.from_residual.ensures.1 Bool (g.S.Session.state c.args.conn.now) (g.S.Session.state c.take.new.conn) c.in_err-take-in-Debit.ensures.write
 
 pub returns-in_err-take-in-Debit-clause-blame : goal.returns-in_err-take-in-Debit-clause-blame
 returns-in_err-take-in-Debit-clause-blame g c clean is_open has amounts can =
-    on_error c.from_residual.result c.in_err-take-in-Debit.field-0.0 (ForCause (state g.S.Store c.args.conn.now) (state g.S.Store c.take.new.conn)) c.from_residual.ensures.1 (c.in_err-take-in-Debit.ensures.blame clean is_open has amounts)
+    on_error c.from_residual.result c.in_err-take-in-Debit.field-0.0 (ForCause (g.S.Session.state c.args.conn.now) (g.S.Session.state c.take.new.conn)) c.from_residual.ensures.1 (c.in_err-take-in-Debit.ensures.blame clean is_open has amounts)
 
 pub returns-then-branch-clause-changed : goal.returns-then-branch-clause-changed
 returns-then-branch-clause-changed g c clean is_open has amounts =
-    let old = (state g.S.Store c.args.conn.now).now in
-    let new = (state g.S.Store c.take.new.conn).now in
+    let old = (g.S.Session.state c.args.conn.now).now in
+    let new = (g.S.Session.state c.take.new.conn).now in
     subst (λ (d : Direction). Posts d old new c.args.key.now c.args.amount) (sym c.in-Debit.is)
     (subst (λ (r : Bool). Takes old new c.args.key.now c.args.amount r) c.if-branch.true (c.in_ok-take-in-Debit.ensures.changed clean is_open has amounts))
 
 pub returns-then-branch-clause-write : goal.returns-then-branch-clause-write
-returns-then-branch-clause-write g c = write_ok _ _ (state g.S.Store c.args.conn.now) (state g.S.Store c.take.new.conn) c.in_ok-take-in-Debit.ensures.write
+returns-then-branch-clause-write g c = write_ok _ _ (g.S.Session.state c.args.conn.now) (g.S.Session.state c.take.new.conn) c.in_ok-take-in-Debit.ensures.write
 
 pub returns-then-branch-clause-blame : goal.returns-then-branch-clause-blame
 returns-then-branch-clause-blame g c clean is_open has amounts can = tt
@@ -54,8 +53,8 @@ returns-else-branch-clause-changed g c clean is_open has amounts = tt
 
 pub returns-else-branch-clause-blame : goal.returns-else-branch-clause-blame
 returns-else-branch-clause-blame g c clean is_open has amounts can =
-    let old = (state g.S.Store c.args.conn.now).now in
-    let new = (state g.S.Store c.take.new.conn).now in
+    let old = (g.S.Session.state c.args.conn.now).now in
+    let new = (g.S.Session.state c.take.new.conn).now in
     let key = c.args.key.now in
     let able = subst (λ (d : Direction). CanPost d old key c.args.amount) c.in-Debit.is can in
     let lacks = subst (λ (r : Bool). Takes old new key c.args.amount r) c.if-branch.false (c.in_ok-take-in-Debit.ensures.changed clean is_open has amounts) in

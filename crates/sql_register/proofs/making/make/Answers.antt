@@ -1,5 +1,4 @@
 use Rattle.std.proofs.Common.{◌∙◌, ap, refl, sym, subst}
-use Rattle.sqlite.specs.Held.{state}
 use Rattle.sqlite.specs.State.{HasCleanDisk}
 use Rattle.desk_register.specs.Changes.{empty_content}
 use Rattle.sql_tables.specs.Ends.{ForCause}
@@ -17,10 +16,10 @@ use Rattle.sql_register.proofs.making.make.Goals as goal
 
 pub returns-clause-made : goal.returns-clause-made
 returns-clause-made g c clean is_open blank =
-    let s1 = state g.S.Store c.begin_making.new.conn in
-    let s2 = state g.S.Store c.make_tables.new.conn in
-    let s3 = state g.S.Store c.set_version.new.conn in
-    let s4 = state g.S.Store c.commit.new.conn in
+    let s1 = g.S.Session.state c.begin_making.new.conn in
+    let s2 = g.S.Session.state c.make_tables.new.conn in
+    let s3 = g.S.Session.state c.set_version.new.conn in
+    let s4 = g.S.Session.state c.commit.new.conn in
     let clean3 : HasCleanDisk s3 = was_clean _ _ c.commit.ensures.later clean in
     let clean2 : HasCleanDisk s2 = was_clean _ _ c.set_version.ensures.write.later clean3 in
     let clean1 : HasCleanDisk s1 = was_clean _ _ c.make_tables.ensures.later clean2 in
@@ -39,9 +38,9 @@ returns-clause-made g c clean is_open blank =
 
 pub returns-clause-outside : goal.returns-clause-outside
 returns-clause-outside g c clean blank =
-    let s1 = state g.S.Store c.begin_making.new.conn in
-    let s2 = state g.S.Store c.make_tables.new.conn in
-    let s3 = state g.S.Store c.set_version.new.conn in
+    let s1 = g.S.Session.state c.begin_making.new.conn in
+    let s2 = g.S.Session.state c.make_tables.new.conn in
+    let s3 = g.S.Session.state c.set_version.new.conn in
     let clean3 : HasCleanDisk s3 = was_clean _ _ c.commit.ensures.later clean in
     let clean2 : HasCleanDisk s2 = was_clean _ _ c.set_version.ensures.write.later clean3 in
     let clean1 : HasCleanDisk s1 = was_clean _ _ c.make_tables.ensures.later clean2 in
@@ -49,19 +48,19 @@ returns-clause-outside g c clean blank =
 
 pub returns-in_err-make_tables-clause-kept : goal.returns-in_err-make_tables-clause-kept
 returns-in_err-make_tables-clause-kept g c clean is_open blank =
-    let s0 = state g.S.Store c.args.conn.now in
-    let s1 = state g.S.Store c.begin_making.new.conn in
-    let s2 = state g.S.Store c.make_tables.new.conn in
+    let s0 = g.S.Session.state c.args.conn.now in
+    let s1 = g.S.Session.state c.begin_making.new.conn in
+    let s2 = g.S.Session.state c.make_tables.new.conn in
     let clean1 : HasCleanDisk s1 = was_clean _ _ c.make_tables.ensures.later clean in
     let begun = c.in_ok-begin_making.ensures.ok clean1 is_open blank in
     kept_then c.from_residual-in_err-make_tables.result s0 s1 s2 begun.committed (c.in_err-make_tables.ensures.kept clean begun.is_open begun.mode (blank_empty s1.now (ap (λ d. d.schema) begun.now ∙ blank)))
 
 pub returns-in_err-set_version-clause-kept : goal.returns-in_err-set_version-clause-kept
 returns-in_err-set_version-clause-kept g c clean is_open blank =
-    let s0 = state g.S.Store c.args.conn.now in
-    let s1 = state g.S.Store c.begin_making.new.conn in
-    let s2 = state g.S.Store c.make_tables.new.conn in
-    let s3 = state g.S.Store c.set_version.new.conn in
+    let s0 = g.S.Session.state c.args.conn.now in
+    let s1 = g.S.Session.state c.begin_making.new.conn in
+    let s2 = g.S.Session.state c.make_tables.new.conn in
+    let s3 = g.S.Session.state c.set_version.new.conn in
     let clean2 : HasCleanDisk s2 = was_clean _ _ c.set_version.ensures.write.later clean in
     let clean1 : HasCleanDisk s1 = was_clean _ _ c.make_tables.ensures.later clean2 in
     let begun = c.in_ok-begin_making.ensures.ok clean1 is_open blank in
@@ -71,11 +70,11 @@ returns-in_err-set_version-clause-kept g c clean is_open blank =
 
 pub returns-in_err-commit-clause-kept : goal.returns-in_err-commit-clause-kept
 returns-in_err-commit-clause-kept g c clean is_open blank =
-    let s0 = state g.S.Store c.args.conn.now in
-    let s1 = state g.S.Store c.begin_making.new.conn in
-    let s2 = state g.S.Store c.make_tables.new.conn in
-    let s3 = state g.S.Store c.set_version.new.conn in
-    let s4 = state g.S.Store c.commit.new.conn in
+    let s0 = g.S.Session.state c.args.conn.now in
+    let s1 = g.S.Session.state c.begin_making.new.conn in
+    let s2 = g.S.Session.state c.make_tables.new.conn in
+    let s3 = g.S.Session.state c.set_version.new.conn in
+    let s4 = g.S.Session.state c.commit.new.conn in
     let clean3 : HasCleanDisk s3 = was_clean _ _ c.commit.ensures.later clean in
     let clean2 : HasCleanDisk s2 = was_clean _ _ c.set_version.ensures.write.later clean3 in
     let clean1 : HasCleanDisk s1 = was_clean _ _ c.make_tables.ensures.later clean2 in
@@ -87,14 +86,14 @@ returns-in_err-commit-clause-kept g c clean is_open blank =
 
 pub returns-in_err-begin_making-clause-blame : goal.returns-in_err-begin_making-clause-blame
 returns-in_err-begin_making-clause-blame g c clean is_open blank outside =
-    on_error c.from_residual.result c.in_err-begin_making.field-0.0 (ForCause (state g.S.Store c.args.conn.now) (state g.S.Store c.begin_making.new.conn)) c.from_residual.ensures.1
+    on_error c.from_residual.result c.in_err-begin_making.field-0.0 (ForCause (g.S.Session.state c.args.conn.now) (g.S.Session.state c.begin_making.new.conn)) c.from_residual.ensures.1
     (c.in_err-begin_making.ensures.blame clean is_open blank outside)
 
 pub returns-in_err-make_tables-clause-blame : goal.returns-in_err-make_tables-clause-blame
 returns-in_err-make_tables-clause-blame g c clean is_open blank outside =
-    let s0 = state g.S.Store c.args.conn.now in
-    let s1 = state g.S.Store c.begin_making.new.conn in
-    let s2 = state g.S.Store c.make_tables.new.conn in
+    let s0 = g.S.Session.state c.args.conn.now in
+    let s1 = g.S.Session.state c.begin_making.new.conn in
+    let s2 = g.S.Session.state c.make_tables.new.conn in
     let clean1 : HasCleanDisk s1 = was_clean _ _ c.make_tables.ensures.later clean in
     let begun = c.in_ok-begin_making.ensures.ok clean1 is_open blank in
     caused_on c.from_residual-in_err-make_tables.result c.in_err-make_tables.field-0.0 s0 s1 s2 c.from_residual-in_err-make_tables.ensures.1 c.begin_making.ensures.later c.make_tables.ensures.later
@@ -102,10 +101,10 @@ returns-in_err-make_tables-clause-blame g c clean is_open blank outside =
 
 pub returns-in_err-set_version-clause-blame : goal.returns-in_err-set_version-clause-blame
 returns-in_err-set_version-clause-blame g c clean is_open blank outside =
-    let s0 = state g.S.Store c.args.conn.now in
-    let s1 = state g.S.Store c.begin_making.new.conn in
-    let s2 = state g.S.Store c.make_tables.new.conn in
-    let s3 = state g.S.Store c.set_version.new.conn in
+    let s0 = g.S.Session.state c.args.conn.now in
+    let s1 = g.S.Session.state c.begin_making.new.conn in
+    let s2 = g.S.Session.state c.make_tables.new.conn in
+    let s3 = g.S.Session.state c.set_version.new.conn in
     let clean2 : HasCleanDisk s2 = was_clean _ _ c.set_version.ensures.write.later clean in
     let clean1 : HasCleanDisk s1 = was_clean _ _ c.make_tables.ensures.later clean2 in
     let begun = c.in_ok-begin_making.ensures.ok clean1 is_open blank in
@@ -116,11 +115,11 @@ returns-in_err-set_version-clause-blame g c clean is_open blank outside =
 
 pub returns-in_err-commit-clause-blame : goal.returns-in_err-commit-clause-blame
 returns-in_err-commit-clause-blame g c clean is_open blank outside =
-    let s0 = state g.S.Store c.args.conn.now in
-    let s1 = state g.S.Store c.begin_making.new.conn in
-    let s2 = state g.S.Store c.make_tables.new.conn in
-    let s3 = state g.S.Store c.set_version.new.conn in
-    let s4 = state g.S.Store c.commit.new.conn in
+    let s0 = g.S.Session.state c.args.conn.now in
+    let s1 = g.S.Session.state c.begin_making.new.conn in
+    let s2 = g.S.Session.state c.make_tables.new.conn in
+    let s3 = g.S.Session.state c.set_version.new.conn in
+    let s4 = g.S.Session.state c.commit.new.conn in
     let clean3 : HasCleanDisk s3 = was_clean _ _ c.commit.ensures.later clean in
     let clean2 : HasCleanDisk s2 = was_clean _ _ c.set_version.ensures.write.later clean3 in
     let clean1 : HasCleanDisk s1 = was_clean _ _ c.make_tables.ensures.later clean2 in
@@ -160,41 +159,41 @@ returns-in_err-begin_making-clause-later g c = c.begin_making.ensures.later
 
 pub returns-in_err-make_tables-clause-later : goal.returns-in_err-make_tables-clause-later
 returns-in_err-make_tables-clause-later g c =
-    let s0 = state g.S.Store c.args.conn.now in
-    let s1 = state g.S.Store c.begin_making.new.conn in
-    let s2 = state g.S.Store c.make_tables.new.conn in
+    let s0 = g.S.Session.state c.args.conn.now in
+    let s1 = g.S.Session.state c.begin_making.new.conn in
+    let s2 = g.S.Session.state c.make_tables.new.conn in
     later_then s0 s1 s2 c.begin_making.ensures.later c.make_tables.ensures.later
 
 pub returns-in_err-set_version-clause-later : goal.returns-in_err-set_version-clause-later
 returns-in_err-set_version-clause-later g c =
-    let s0 = state g.S.Store c.args.conn.now in
-    let s1 = state g.S.Store c.begin_making.new.conn in
-    let s2 = state g.S.Store c.make_tables.new.conn in
-    let s3 = state g.S.Store c.set_version.new.conn in
+    let s0 = g.S.Session.state c.args.conn.now in
+    let s1 = g.S.Session.state c.begin_making.new.conn in
+    let s2 = g.S.Session.state c.make_tables.new.conn in
+    let s3 = g.S.Session.state c.set_version.new.conn in
     later_then s0 s2 s3 (later_then s0 s1 s2 c.begin_making.ensures.later c.make_tables.ensures.later) c.set_version.ensures.write.later
 
 pub returns-in_err-commit-clause-later : goal.returns-in_err-commit-clause-later
 returns-in_err-commit-clause-later g c =
-    let s0 = state g.S.Store c.args.conn.now in
-    let s1 = state g.S.Store c.begin_making.new.conn in
-    let s2 = state g.S.Store c.make_tables.new.conn in
-    let s3 = state g.S.Store c.set_version.new.conn in
-    let s4 = state g.S.Store c.commit.new.conn in
+    let s0 = g.S.Session.state c.args.conn.now in
+    let s1 = g.S.Session.state c.begin_making.new.conn in
+    let s2 = g.S.Session.state c.make_tables.new.conn in
+    let s3 = g.S.Session.state c.set_version.new.conn in
+    let s4 = g.S.Session.state c.commit.new.conn in
     later_then s0 s3 s4 (later_then s0 s2 s3 (later_then s0 s1 s2 c.begin_making.ensures.later c.make_tables.ensures.later) c.set_version.ensures.write.later) c.commit.ensures.later
 
 pub returns-clause-later : goal.returns-clause-later
 returns-clause-later g c =
-    let s0 = state g.S.Store c.args.conn.now in
-    let s1 = state g.S.Store c.begin_making.new.conn in
-    let s2 = state g.S.Store c.make_tables.new.conn in
-    let s3 = state g.S.Store c.set_version.new.conn in
-    let s4 = state g.S.Store c.commit.new.conn in
+    let s0 = g.S.Session.state c.args.conn.now in
+    let s1 = g.S.Session.state c.begin_making.new.conn in
+    let s2 = g.S.Session.state c.make_tables.new.conn in
+    let s3 = g.S.Session.state c.set_version.new.conn in
+    let s4 = g.S.Session.state c.commit.new.conn in
     later_then s0 s3 s4 (later_then s0 s2 s3 (later_then s0 s1 s2 c.begin_making.ensures.later c.make_tables.ensures.later) c.set_version.ensures.write.later) c.commit.ensures.later
 
 pub returns-in_err-begin_making-clause-kept : goal.returns-in_err-begin_making-clause-kept
 returns-in_err-begin_making-clause-kept g c clean is_open blank =
-    let s0 = state g.S.Store c.args.conn.now in
-    kept_then c.from_residual.result s0 s0 (state g.S.Store c.begin_making.new.conn) refl (c.in_err-begin_making.ensures.kept clean)
+    let s0 = g.S.Session.state c.args.conn.now in
+    kept_then c.from_residual.result s0 s0 (g.S.Session.state c.begin_making.new.conn) refl (c.in_err-begin_making.ensures.kept clean)
 
 pub returns-clause-kept : goal.returns-clause-kept
 returns-clause-kept g c clean is_open blank = tt

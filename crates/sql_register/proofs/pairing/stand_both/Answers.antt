@@ -1,5 +1,4 @@
 use Rattle.std.proofs.Common.{Err, ◌≢◌}
-use Rattle.sqlite.specs.Held.{state}
 use Rattle.sqlite.specs.State.{HasCleanDisk}
 use Rattle.sql_register.proofs.BothContent.{stands_both}
 use Rattle.desk_rules.specs.declared.history.standing.State.TheVariants.{NoInstruction}
@@ -15,17 +14,17 @@ use Rattle.sql_register.proofs.pairing.stand_both.Goals as goal
 
 pub returns-clause-changed : goal.returns-clause-changed
 returns-clause-changed g c clean is_open has standings =
-    let clean_mid : HasCleanDisk (state g.S.Store c.set_standing.new.conn) = was_clean _ _ c.set_standing-2.ensures.write.later clean in
+    let clean_mid : HasCleanDisk (g.S.Session.state c.set_standing.new.conn) = was_clean _ _ c.set_standing-2.ensures.write.later clean in
     let mid = c.in_ok-set_standing.ensures.write.ok clean_mid is_open has in
     let first = c.in_ok-set_standing.ensures.changed clean_mid is_open has standings in
-    stands_both (state g.S.Store c.args.conn.now).now (state g.S.Store c.set_standing.new.conn).now (state g.S.Store c.set_standing-2.new.conn).now c.args.earlier c.args.later c.args.new_state c.set_standing-2.result
+    stands_both (g.S.Session.state c.args.conn.now).now (g.S.Session.state c.set_standing.new.conn).now (g.S.Session.state c.set_standing-2.new.conn).now c.args.earlier c.args.later c.args.new_state c.set_standing-2.result
     c.in_ok-in_order.ensures.order first (c.set_standing-2.ensures.changed clean mid.is_open mid.schema first.kept)
 
 pub returns-clause-blame : goal.returns-clause-blame
 returns-clause-blame g c clean is_open has already some order small =
-    let s0 = state g.S.Store c.args.conn.now in
-    let s1 = state g.S.Store c.set_standing.new.conn in
-    let s2 = state g.S.Store c.set_standing-2.new.conn in
+    let s0 = g.S.Session.state c.args.conn.now in
+    let s1 = g.S.Session.state c.set_standing.new.conn in
+    let s2 = g.S.Session.state c.set_standing-2.new.conn in
     caused_from c.set_standing-2.result s0 s1 s2 (AreStandings s1.now × ((standing_in s1.now c.args.later).state ≢ NoInstruction)) c.in_ok-set_standing.ensures.write.later c.set_standing-2.ensures.write.later
     (wrote _ s0 s1 (AreStandings s1.now × ((standing_in s1.now c.args.later).state ≢ NoInstruction)) c.in_ok-set_standing.ensures.write (λ clean1 open0 has0.
     let first = c.in_ok-set_standing.ensures.changed clean1 open0 has0 already.standings in
@@ -36,7 +35,7 @@ pub returns-in_err-in_order-clause-changed : goal.returns-in_err-in_order-clause
 returns-in_err-in_order-clause-changed g c clean is_open has standings = not_done c.from_residual.result c.in_err-in_order.field-0.0 c.from_residual.ensures.1 _
 
 pub returns-in_err-in_order-clause-write : goal.returns-in_err-in_order-clause-write
-returns-in_err-in_order-clause-write g c = write_none c.from_residual.result c.in_err-in_order.field-0.0 c.from_residual.ensures.1 (state g.S.Store c.args.conn.now)
+returns-in_err-in_order-clause-write g c = write_none c.from_residual.result c.in_err-in_order.field-0.0 c.from_residual.ensures.1 (g.S.Session.state c.args.conn.now)
 
 pub returns-in_err-in_order-clause-blame : goal.returns-in_err-in_order-clause-blame
 returns-in_err-in_order-clause-blame g c clean is_open has already some order small =
@@ -47,13 +46,13 @@ returns-in_err-set_standing-clause-changed g c clean is_open has standings = not
 
 pub returns-in_err-set_standing-clause-write : goal.returns-in_err-set_standing-clause-write
 returns-in_err-set_standing-clause-write g c =
-    write_handed c.from_residual-in_err-set_standing.result c.in_err-set_standing.field-0.0 c.from_residual-in_err-set_standing.ensures.1 (Unit {0}) (state g.S.Store c.args.conn.now) (state g.S.Store c.set_standing.new.conn) c.in_err-set_standing.ensures.write
+    write_handed c.from_residual-in_err-set_standing.result c.in_err-set_standing.field-0.0 c.from_residual-in_err-set_standing.ensures.1 (Unit {0}) (g.S.Session.state c.args.conn.now) (g.S.Session.state c.set_standing.new.conn) c.in_err-set_standing.ensures.write
 
 pub returns-in_err-set_standing-clause-blame : goal.returns-in_err-set_standing-clause-blame
 returns-in_err-set_standing-clause-blame g c clean is_open has already some order small =
-    on_error c.from_residual-in_err-set_standing.result c.in_err-set_standing.field-0.0 (ForCause (state g.S.Store c.args.conn.now) (state g.S.Store c.set_standing.new.conn)) c.from_residual-in_err-set_standing.ensures.1
+    on_error c.from_residual-in_err-set_standing.result c.in_err-set_standing.field-0.0 (ForCause (g.S.Session.state c.args.conn.now) (g.S.Session.state c.set_standing.new.conn)) c.from_residual-in_err-set_standing.ensures.1
     (c.in_err-set_standing.ensures.blame clean is_open has already.standings already.earlier)
 
 pub returns-clause-write : goal.returns-clause-write
 returns-clause-write g c =
-    write_then c.in_ok-set_standing.field-0 c.set_standing-2.result (state g.S.Store c.args.conn.now) (state g.S.Store c.set_standing.new.conn) (state g.S.Store c.set_standing-2.new.conn) c.in_ok-set_standing.ensures.write c.set_standing-2.ensures.write
+    write_then c.in_ok-set_standing.field-0 c.set_standing-2.result (g.S.Session.state c.args.conn.now) (g.S.Session.state c.set_standing.new.conn) (g.S.Session.state c.set_standing-2.new.conn) c.in_ok-set_standing.ensures.write c.set_standing-2.ensures.write

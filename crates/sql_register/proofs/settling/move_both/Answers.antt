@@ -1,6 +1,5 @@
 use Rattle.std.proofs.Common.{rules, true, false, Err, Ok, [], ◌∷◌, ℕ, ◌≡◌, ◌≢◌, ◌∙◌, ap, subst, sym}
 use Rattle.sqlite.specs.Effect.{Database}
-use Rattle.sqlite.specs.Held.{state}
 use Rattle.sqlite.specs.State.{HasCleanDisk}
 use Rattle.desk_register.specs.Changes.{SidesFit}
 use Rattle.desk_register.specs.declared.outcome.Outcome.TheVariants.{Lacks, Settled}
@@ -26,9 +25,9 @@ settled_lacks e = cc
 
 pub returns-in_err-outcome-clause-blame : goal.returns-in_err-outcome-clause-blame
 returns-in_err-outcome-clause-blame g c clean is_open has amounts fits inside none =
-    let s0 = state g.S.Store c.args.conn.now in
-    let s1 = state g.S.Store c.save.new.conn in
-    let s2 = state g.S.Store c.move_legs.new.conn in
+    let s0 = g.S.Session.state c.args.conn.now in
+    let s1 = g.S.Session.state c.save.new.conn in
+    let s2 = g.S.Session.state c.move_legs.new.conn in
     let e = c.in_err-outcome.field-0.0 in
     let pair = c.args.pair.now in
     let saved : IfSound s0 s1 (IsReady s1 (s1.now ≡ s0.now)) = (λ clean1 open0 has0.
@@ -49,38 +48,38 @@ returns-in_err-go_back-clause-changed g c clean is_open has amounts fits inside 
 
 pub returns-in_err-save-clause-trial : goal.returns-in_err-save-clause-trial
 returns-in_err-save-clause-trial g c =
-    let s0 = state g.S.Store c.args.conn.now in
-    let s1 = state g.S.Store c.save.new.conn in
+    let s0 = g.S.Session.state c.args.conn.now in
+    let s1 = g.S.Session.state c.save.new.conn in
     let e = c.in_err-save.ensures in
     trial_handed c.from_residual.result c.in_err-save.field-0.0 c.from_residual.ensures.1 ℕ s0 s1 _ _ (save_trial {Y = ℕ} (Err c.in_err-save.field-0.0) s0 s1 e.ok e.err e.why e.opened e.later)
 
 pub returns-in_err-outcome-clause-trial : goal.returns-in_err-outcome-clause-trial
 returns-in_err-outcome-clause-trial g c =
-    let s0 = state g.S.Store c.args.conn.now in
-    let s1 = state g.S.Store c.save.new.conn in
-    let s2 = state g.S.Store c.move_legs.new.conn in
+    let s0 = g.S.Session.state c.args.conn.now in
+    let s1 = g.S.Session.state c.save.new.conn in
+    let s2 = g.S.Session.state c.move_legs.new.conn in
     trial_fell c.from_residual-in_err-outcome.result c.in_err-outcome.field-0.0 c.from_residual-in_err-outcome.ensures.1 _ c.in_ok-save.field-0 s0 s1 s2 _ (save_trial (Ok c.in_ok-save.field-0) s0 s1 c.in_ok-save.ensures.ok c.in_ok-save.ensures.err c.in_ok-save.ensures.why c.in_ok-save.ensures.opened c.in_ok-save.ensures.later) c.in_err-outcome.ensures.write
 
 pub returns-in_err-go_back-clause-trial : goal.returns-in_err-go_back-clause-trial
 returns-in_err-go_back-clause-trial g c =
-    let s0 = state g.S.Store c.args.conn.now in
-    let s1 = state g.S.Store c.save.new.conn in
-    let s2 = state g.S.Store c.move_legs.new.conn in
-    let s3 = state g.S.Store c.go_back.new.conn in
+    let s0 = g.S.Session.state c.args.conn.now in
+    let s1 = g.S.Session.state c.save.new.conn in
+    let s2 = g.S.Session.state c.move_legs.new.conn in
+    let s3 = g.S.Session.state c.go_back.new.conn in
     let e = c.in_err-go_back.ensures in
     let moved = write_marked c.in_ok-save.field-0 (Ok c.in_ok-outcome.outcome) s0 s1 s2 (save_trial (Ok c.in_ok-save.field-0) s0 s1 c.in_ok-save.ensures.ok c.in_ok-save.ensures.err c.in_ok-save.ensures.why c.in_ok-save.ensures.opened c.in_ok-save.ensures.later) c.in_ok-outcome.ensures.write in
     trial_handed c.from_residual-in_err-go_back.result c.in_err-go_back.field-0.0 c.from_residual-in_err-go_back.ensures.1 ℕ s0 s3 _ _ (back_trial {Y = ℕ} c.in_ok-outcome.outcome (Err c.in_err-go_back.field-0.0) s0 s2 s3 moved e.ok e.err e.why e.opened e.later)
 
 pub returns-in_err-save-clause-blame : goal.returns-in_err-save-clause-blame
 returns-in_err-save-clause-blame g c clean is_open has amounts fits inside none =
-    on_error c.from_residual.result c.in_err-save.field-0.0 (ForCause (state g.S.Store c.args.conn.now) (state g.S.Store c.save.new.conn)) c.from_residual.ensures.1 (c.in_err-save.ensures.blame clean is_open has)
+    on_error c.from_residual.result c.in_err-save.field-0.0 (ForCause (g.S.Session.state c.args.conn.now) (g.S.Session.state c.save.new.conn)) c.from_residual.ensures.1 (c.in_err-save.ensures.blame clean is_open has)
 
 pub returns-in_err-go_back-clause-blame : goal.returns-in_err-go_back-clause-blame
 returns-in_err-go_back-clause-blame g c clean is_open has amounts fits inside none =
-    let s0 = state g.S.Store c.args.conn.now in
-    let s1 = state g.S.Store c.save.new.conn in
-    let s2 = state g.S.Store c.move_legs.new.conn in
-    let s3 = state g.S.Store c.go_back.new.conn in
+    let s0 = g.S.Session.state c.args.conn.now in
+    let s1 = g.S.Session.state c.save.new.conn in
+    let s2 = g.S.Session.state c.move_legs.new.conn in
+    let s3 = g.S.Session.state c.go_back.new.conn in
     let e = c.in_err-go_back.field-0.0 in
     let saved = save_trial (Ok c.in_ok-save.field-0) s0 s1 c.in_ok-save.ensures.ok c.in_ok-save.ensures.err c.in_ok-save.ensures.why c.in_ok-save.ensures.opened c.in_ok-save.ensures.later in
     let moved = write_marked c.in_ok-save.field-0 (Ok c.in_ok-outcome.outcome) s0 s1 s2 saved c.in_ok-outcome.ensures.write in
@@ -90,10 +89,10 @@ returns-in_err-go_back-clause-blame g c clean is_open has amounts fits inside no
 
 pub returns-in_ok-go_back-clause-trial : goal.returns-in_ok-go_back-clause-trial
 returns-in_ok-go_back-clause-trial g c =
-    let s0 = state g.S.Store c.args.conn.now in
-    let s1 = state g.S.Store c.save.new.conn in
-    let s2 = state g.S.Store c.move_legs.new.conn in
-    let s3 = state g.S.Store c.go_back.new.conn in
+    let s0 = g.S.Session.state c.args.conn.now in
+    let s1 = g.S.Session.state c.save.new.conn in
+    let s2 = g.S.Session.state c.move_legs.new.conn in
+    let s3 = g.S.Session.state c.go_back.new.conn in
     let back = c.in_ok-go_back.ensures in
     let saved = save_trial (Ok c.in_ok-save.field-0) s0 s1 c.in_ok-save.ensures.ok c.in_ok-save.ensures.err c.in_ok-save.ensures.why c.in_ok-save.ensures.opened c.in_ok-save.ensures.later in
     let moved = write_marked c.in_ok-save.field-0 (Ok c.in_ok-outcome.outcome) s0 s1 s2 saved c.in_ok-outcome.ensures.write in
@@ -104,10 +103,10 @@ returns-in_ok-go_back-clause-blame g c clean is_open has amounts fits inside non
 
 pub returns-in_ok-go_back-clause-changed : goal.returns-in_ok-go_back-clause-changed
 returns-in_ok-go_back-clause-changed g c clean is_open has amounts fits inside none =
-    let s0 = state g.S.Store c.args.conn.now in
-    let s1 = state g.S.Store c.save.new.conn in
-    let s2 = state g.S.Store c.move_legs.new.conn in
-    let s3 = state g.S.Store c.go_back.new.conn in
+    let s0 = g.S.Session.state c.args.conn.now in
+    let s1 = g.S.Session.state c.save.new.conn in
+    let s2 = g.S.Session.state c.move_legs.new.conn in
+    let s3 = g.S.Session.state c.go_back.new.conn in
     let p = c.args.pair.now in
     let clean2 : HasCleanDisk s2 = was_clean _ _ c.in_ok-go_back.ensures.later clean in
     let clean1 : HasCleanDisk s1 = was_clean _ _ c.in_ok-outcome.ensures.write.later clean2 in
@@ -125,9 +124,9 @@ returns-in_ok-go_back-clause-changed g c clean is_open has amounts fits inside n
 
 pub returns-else-matches-clause-trial : goal.returns-else-matches-clause-trial
 returns-else-matches-clause-trial g c =
-    let s0 = state g.S.Store c.args.conn.now in
-    let s1 = state g.S.Store c.save.new.conn in
-    let s2 = state g.S.Store c.move_legs.new.conn in
+    let s0 = g.S.Session.state c.args.conn.now in
+    let s1 = g.S.Session.state c.save.new.conn in
+    let s2 = g.S.Session.state c.move_legs.new.conn in
     let saved = save_trial (Ok c.in_ok-save.field-0) s0 s1 c.in_ok-save.ensures.ok c.in_ok-save.ensures.err c.in_ok-save.ensures.why c.in_ok-save.ensures.opened c.in_ok-save.ensures.later in
     write_marked c.in_ok-save.field-0 (Ok c.in_ok-outcome.outcome) s0 s1 s2 saved c.in_ok-outcome.ensures.write
 
@@ -136,9 +135,9 @@ returns-else-matches-clause-blame g c clean is_open has amounts fits inside none
 
 pub returns-else-matches-clause-changed : goal.returns-else-matches-clause-changed
 returns-else-matches-clause-changed g c clean is_open has amounts fits inside none =
-    let s0 = state g.S.Store c.args.conn.now in
-    let s1 = state g.S.Store c.save.new.conn in
-    let s2 = state g.S.Store c.move_legs.new.conn in
+    let s0 = g.S.Session.state c.args.conn.now in
+    let s1 = g.S.Session.state c.save.new.conn in
+    let s2 = g.S.Session.state c.move_legs.new.conn in
     let p = c.args.pair.now in
     let clean1 : HasCleanDisk s1 = was_clean _ _ c.in_ok-outcome.ensures.write.later clean in
     let saves = c.in_ok-save.ensures.ok clean1 is_open has inside none in

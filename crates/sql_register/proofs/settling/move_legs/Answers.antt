@@ -1,5 +1,4 @@
 use Rattle.std.proofs.Common.{rules, Bool, Ok, ◌<◌, ◌^◌, arith, lit<, subst, true}
-use Rattle.sqlite.specs.Held.{state}
 use Rattle.sqlite.specs.State.{HasCleanDisk}
 use Rattle.desk_rules.proofs.ShortNumbers.{short_quantity}
 use Rattle.sql_tables.proofs.CallLemmas.{later_then, write_ok, write_then}
@@ -29,11 +28,11 @@ put-requires g c =
 
 pub returns-clause-changed : goal.returns-clause-changed
 returns-clause-changed g c clean is_open has amounts fits =
-    let s0 = state g.S.Store c.args.conn.now in
-    let s1 = state g.S.Store c.take.new.conn in
-    let s2 = state g.S.Store c.take_cash.new.conn in
-    let s3 = state g.S.Store c.put.new.conn in
-    let s4 = state g.S.Store c.put_cash.new.conn in
+    let s0 = g.S.Session.state c.args.conn.now in
+    let s1 = g.S.Session.state c.take.new.conn in
+    let s2 = g.S.Session.state c.take_cash.new.conn in
+    let s3 = g.S.Session.state c.put.new.conn in
+    let s4 = g.S.Session.state c.put_cash.new.conn in
     let clean3 : HasCleanDisk s3 = was_clean _ _ c.in_ok-put_cash.ensures.write.later clean in
     let clean2 : HasCleanDisk s2 = was_clean _ _ c.in_ok-put.ensures.write.later clean3 in
     let clean1 : HasCleanDisk s1 = was_clean _ _ c.in_ok-take_cash.ensures.write.later clean2 in
@@ -58,17 +57,17 @@ returns-in_err-take-clause-changed g c clean is_open has amounts fits = no_value
 
 pub returns-in_err-take-clause-write : goal.returns-in_err-take-clause-write
 returns-in_err-take-clause-write g c =
-    write_handed c.from_residual.result c.in_err-take.field-0.0 c.from_residual.ensures.1 Bool (state g.S.Store c.args.conn.now) (state g.S.Store c.take.new.conn) c.in_err-take.ensures.write
+    write_handed c.from_residual.result c.in_err-take.field-0.0 c.from_residual.ensures.1 Bool (g.S.Session.state c.args.conn.now) (g.S.Session.state c.take.new.conn) c.in_err-take.ensures.write
 
 pub returns-in_err-take-clause-blame : goal.returns-in_err-take-clause-blame
 returns-in_err-take-clause-blame g c clean is_open has amounts fits =
-    on_error c.from_residual.result c.in_err-take.field-0.0 (ForCause (state g.S.Store c.args.conn.now) (state g.S.Store c.take.new.conn)) c.from_residual.ensures.1
+    on_error c.from_residual.result c.in_err-take.field-0.0 (ForCause (g.S.Session.state c.args.conn.now) (g.S.Session.state c.take.new.conn)) c.from_residual.ensures.1
     (c.in_err-take.ensures.blame clean is_open has amounts)
 
 pub returns-then-not-branch-clause-changed : goal.returns-then-not-branch-clause-changed
 returns-then-not-branch-clause-changed g c clean is_open has amounts fits =
-    let s0 = state g.S.Store c.args.conn.now in
-    let s1 = state g.S.Store c.take.new.conn in
+    let s0 = g.S.Session.state c.args.conn.now in
+    let s1 = g.S.Session.state c.take.new.conn in
     let earlier = c.args.pair.now.earlier in
     let later = c.args.pair.now.later in
     let from = c.deliverer-from.result.now in
@@ -78,7 +77,7 @@ returns-then-not-branch-clause-changed g c clean is_open has amounts fits =
     legs_short s0.now s1.now s1.now s1.now s1.now earlier later from to c.deliverer-from.ensures c.receiver-to.ensures takes
 
 pub returns-then-not-branch-clause-write : goal.returns-then-not-branch-clause-write
-returns-then-not-branch-clause-write g c = write_ok _ _ (state g.S.Store c.args.conn.now) (state g.S.Store c.take.new.conn) c.in_ok-take.ensures.write
+returns-then-not-branch-clause-write g c = write_ok _ _ (g.S.Session.state c.args.conn.now) (g.S.Session.state c.take.new.conn) c.in_ok-take.ensures.write
 
 pub returns-then-not-branch-clause-blame : goal.returns-then-not-branch-clause-blame
 returns-then-not-branch-clause-blame g c clean is_open has amounts fits = tt
@@ -88,16 +87,16 @@ returns-in_err-take_cash-clause-changed g c clean is_open has amounts fits = no_
 
 pub returns-in_err-take_cash-clause-write : goal.returns-in_err-take_cash-clause-write
 returns-in_err-take_cash-clause-write g c =
-    let s0 = state g.S.Store c.args.conn.now in
-    let s1 = state g.S.Store c.take.new.conn in
-    let s2 = state g.S.Store c.take_cash.new.conn in
+    let s0 = g.S.Session.state c.args.conn.now in
+    let s1 = g.S.Session.state c.take.new.conn in
+    let s2 = g.S.Session.state c.take_cash.new.conn in
     write_fell c.from_residual-in_err-take_cash.result c.in_err-take_cash.field-0.0 c.from_residual-in_err-take_cash.ensures.1 Bool c.in_ok-take.field-0 s0 s1 s2 c.in_ok-take.ensures.write c.in_err-take_cash.ensures.write
 
 pub returns-then-not-branch-2-clause-changed : goal.returns-then-not-branch-2-clause-changed
 returns-then-not-branch-2-clause-changed g c clean is_open has amounts fits =
-    let s0 = state g.S.Store c.args.conn.now in
-    let s1 = state g.S.Store c.take.new.conn in
-    let s2 = state g.S.Store c.take_cash.new.conn in
+    let s0 = g.S.Session.state c.args.conn.now in
+    let s1 = g.S.Session.state c.take.new.conn in
+    let s2 = g.S.Session.state c.take_cash.new.conn in
     let clean1 : HasCleanDisk s1 = was_clean _ _ c.in_ok-take_cash.ensures.write.later clean in
     let m1 = c.in_ok-take.ensures.write.ok clean1 is_open has in
     let earlier = c.args.pair.now.earlier in
@@ -112,9 +111,9 @@ returns-then-not-branch-2-clause-changed g c clean is_open has amounts fits =
 
 pub returns-then-not-branch-2-clause-write : goal.returns-then-not-branch-2-clause-write
 returns-then-not-branch-2-clause-write g c =
-    let s0 = state g.S.Store c.args.conn.now in
-    let s1 = state g.S.Store c.take.new.conn in
-    let s2 = state g.S.Store c.take_cash.new.conn in
+    let s0 = g.S.Session.state c.args.conn.now in
+    let s1 = g.S.Session.state c.take.new.conn in
+    let s2 = g.S.Session.state c.take_cash.new.conn in
     write_ok c.in_ok-take_cash.field-0 _ s0 s2 (write_then c.in_ok-take.field-0 (Ok c.in_ok-take_cash.field-0) s0 s1 s2 c.in_ok-take.ensures.write c.in_ok-take_cash.ensures.write)
 
 pub returns-then-not-branch-2-clause-blame : goal.returns-then-not-branch-2-clause-blame
@@ -125,10 +124,10 @@ returns-in_err-put-clause-changed g c clean is_open has amounts fits = no_value 
 
 pub returns-in_err-put-clause-write : goal.returns-in_err-put-clause-write
 returns-in_err-put-clause-write g c =
-    let s0 = state g.S.Store c.args.conn.now in
-    let s1 = state g.S.Store c.take.new.conn in
-    let s2 = state g.S.Store c.take_cash.new.conn in
-    let s3 = state g.S.Store c.put.new.conn in
+    let s0 = g.S.Session.state c.args.conn.now in
+    let s1 = g.S.Session.state c.take.new.conn in
+    let s2 = g.S.Session.state c.take_cash.new.conn in
+    let s3 = g.S.Session.state c.put.new.conn in
     let taken = write_then c.in_ok-take.field-0 (Ok c.in_ok-take_cash.field-0) s0 s1 s2 c.in_ok-take.ensures.write c.in_ok-take_cash.ensures.write in
     write_fell c.from_residual-in_err-put.result c.in_err-put.field-0.0 c.from_residual-in_err-put.ensures.1 (Unit {0}) c.in_ok-take_cash.field-0 s0 s2 s3 taken c.in_err-put.ensures.write
 
@@ -137,22 +136,22 @@ returns-in_err-put_cash-clause-changed g c clean is_open has amounts fits = no_v
 
 pub returns-in_err-put_cash-clause-write : goal.returns-in_err-put_cash-clause-write
 returns-in_err-put_cash-clause-write g c =
-    let s0 = state g.S.Store c.args.conn.now in
-    let s1 = state g.S.Store c.take.new.conn in
-    let s2 = state g.S.Store c.take_cash.new.conn in
-    let s3 = state g.S.Store c.put.new.conn in
-    let s4 = state g.S.Store c.put_cash.new.conn in
+    let s0 = g.S.Session.state c.args.conn.now in
+    let s1 = g.S.Session.state c.take.new.conn in
+    let s2 = g.S.Session.state c.take_cash.new.conn in
+    let s3 = g.S.Session.state c.put.new.conn in
+    let s4 = g.S.Session.state c.put_cash.new.conn in
     let taken = write_then c.in_ok-take.field-0 (Ok c.in_ok-take_cash.field-0) s0 s1 s2 c.in_ok-take.ensures.write c.in_ok-take_cash.ensures.write in
     let held = write_then c.in_ok-take_cash.field-0 (Ok c.in_ok-put.field-0) s0 s2 s3 taken c.in_ok-put.ensures.write in
     write_fell c.from_residual-in_err-put_cash.result c.in_err-put_cash.field-0.0 c.from_residual-in_err-put_cash.ensures.1 (Unit {0}) c.in_ok-put.field-0 s0 s3 s4 held c.in_err-put_cash.ensures.write
 
 pub returns-clause-write : goal.returns-clause-write
 returns-clause-write g c =
-    let s0 = state g.S.Store c.args.conn.now in
-    let s1 = state g.S.Store c.take.new.conn in
-    let s2 = state g.S.Store c.take_cash.new.conn in
-    let s3 = state g.S.Store c.put.new.conn in
-    let s4 = state g.S.Store c.put_cash.new.conn in
+    let s0 = g.S.Session.state c.args.conn.now in
+    let s1 = g.S.Session.state c.take.new.conn in
+    let s2 = g.S.Session.state c.take_cash.new.conn in
+    let s3 = g.S.Session.state c.put.new.conn in
+    let s4 = g.S.Session.state c.put_cash.new.conn in
     let taken = write_then c.in_ok-take.field-0 (Ok c.in_ok-take_cash.field-0) s0 s1 s2 c.in_ok-take.ensures.write c.in_ok-take_cash.ensures.write in
     let held = write_then c.in_ok-take_cash.field-0 (Ok c.in_ok-put.field-0) s0 s2 s3 taken c.in_ok-put.ensures.write in
     write_ok c.in_ok-put_cash.field-0 _ s0 s4 (write_then c.in_ok-put.field-0 (Ok c.in_ok-put_cash.field-0) s0 s3 s4 held c.in_ok-put_cash.ensures.write)
@@ -162,9 +161,9 @@ returns-clause-blame g c clean is_open has amounts fits = tt
 
 pub returns-in_err-take_cash-clause-blame : goal.returns-in_err-take_cash-clause-blame
 returns-in_err-take_cash-clause-blame g c clean is_open has amounts fits =
-    let s0 = state g.S.Store c.args.conn.now in
-    let s1 = state g.S.Store c.take.new.conn in
-    let s2 = state g.S.Store c.take_cash.new.conn in
+    let s0 = g.S.Session.state c.args.conn.now in
+    let s1 = g.S.Session.state c.take.new.conn in
+    let s2 = g.S.Session.state c.take_cash.new.conn in
     let e = c.in_err-take_cash.field-0.0 in
     let later = c.args.pair.now.later in
     let from = c.deliverer-from.result.now in
@@ -176,10 +175,10 @@ returns-in_err-take_cash-clause-blame g c clean is_open has amounts fits =
 
 pub returns-in_err-put-clause-blame : goal.returns-in_err-put-clause-blame
 returns-in_err-put-clause-blame g c clean is_open has amounts fits =
-    let s0 = state g.S.Store c.args.conn.now in
-    let s1 = state g.S.Store c.take.new.conn in
-    let s2 = state g.S.Store c.take_cash.new.conn in
-    let s3 = state g.S.Store c.put.new.conn in
+    let s0 = g.S.Session.state c.args.conn.now in
+    let s1 = g.S.Session.state c.take.new.conn in
+    let s2 = g.S.Session.state c.take_cash.new.conn in
+    let s3 = g.S.Session.state c.put.new.conn in
     let e = c.in_err-put.field-0.0 in
     let earlier = c.args.pair.now.earlier in
     let later = c.args.pair.now.later in
@@ -197,11 +196,11 @@ returns-in_err-put-clause-blame g c clean is_open has amounts fits =
 
 pub returns-in_err-put_cash-clause-blame : goal.returns-in_err-put_cash-clause-blame
 returns-in_err-put_cash-clause-blame g c clean is_open has amounts fits =
-    let s0 = state g.S.Store c.args.conn.now in
-    let s1 = state g.S.Store c.take.new.conn in
-    let s2 = state g.S.Store c.take_cash.new.conn in
-    let s3 = state g.S.Store c.put.new.conn in
-    let s4 = state g.S.Store c.put_cash.new.conn in
+    let s0 = g.S.Session.state c.args.conn.now in
+    let s1 = g.S.Session.state c.take.new.conn in
+    let s2 = g.S.Session.state c.take_cash.new.conn in
+    let s3 = g.S.Session.state c.put.new.conn in
+    let s4 = g.S.Session.state c.put_cash.new.conn in
     let e = c.in_err-put_cash.field-0.0 in
     let earlier = c.args.pair.now.earlier in
     let later = c.args.pair.now.later in

@@ -1,6 +1,5 @@
 use Rattle.std.proofs.Common.{Ok, ℕ, ◌≡◌, ◌∙◌, ap, refl, subst, sym, None, Some}
 use Rattle.sqlite.specs.Effect.{Database}
-use Rattle.sqlite.specs.Held.{state}
 use Rattle.sqlite.specs.State.{HasCleanDisk}
 use Rattle.desk_rules.specs.Content.{history_of}
 use Rattle.desk_rules.specs.History.{instruction_at}
@@ -23,9 +22,9 @@ none_some n e = cc
 
 pub returns-clause-value : goal.returns-clause-value
 returns-clause-value g c clean is_open has desk =
-    let s0 = state g.S.Store c.args.conn.now in
-    let s1 = state g.S.Store c.instruction.new.conn in
-    let s2 = state g.S.Store c.standing.new.conn in
+    let s0 = g.S.Session.state c.args.conn.now in
+    let s1 = g.S.Session.state c.instruction.new.conn in
+    let s2 = g.S.Session.state c.standing.new.conn in
     let clean2 : HasCleanDisk s2 = was_clean _ _ c.in_ok-earlier.ensures.look.later clean in
     let clean1 : HasCleanDisk s1 = was_clean _ _ c.in_ok-standing.ensures.look.later clean2 in
     let same1 = c.in_ok-later.ensures.look.ok clean1 is_open has in
@@ -45,23 +44,23 @@ returns-clause-value g c clean is_open has desk =
 
 pub returns-in_err-later-clause-blame : goal.returns-in_err-later-clause-blame
 returns-in_err-later-clause-blame g c clean is_open has desk mate earlier later pair =
-    let s0 = state g.S.Store c.args.conn.now in
+    let s0 = g.S.Session.state c.args.conn.now in
     let e = c.in_err-later.field-0.0 in
-    on_error c.from_residual.result e (ForCause s0 (state g.S.Store c.instruction.new.conn)) c.from_residual.ensures.1
+    on_error c.from_residual.result e (ForCause s0 (g.S.Session.state c.instruction.new.conn)) c.from_residual.ensures.1
     (c.in_err-later.ensures.blame clean is_open has desk later pair.is_later)
 
 pub returns-in_err-standing-clause-look : goal.returns-in_err-standing-clause-look
 returns-in_err-standing-clause-look g c =
-    let s0 = state g.S.Store c.args.conn.now in
-    let s1 = state g.S.Store c.instruction.new.conn in
-    let s2 = state g.S.Store c.standing.new.conn in
+    let s0 = g.S.Session.state c.args.conn.now in
+    let s1 = g.S.Session.state c.instruction.new.conn in
+    let s2 = g.S.Session.state c.standing.new.conn in
     look_handed c.in_ok-later.later s0 s1 s2 c.in_ok-later.ensures.look c.from_residual-in_err-standing.result c.in_err-standing.field-0.0 c.from_residual-in_err-standing.ensures.1 c.in_err-standing.ensures.look
 
 pub returns-in_err-standing-clause-blame : goal.returns-in_err-standing-clause-blame
 returns-in_err-standing-clause-blame g c clean is_open has desk mate earlier later pair =
-    let s0 = state g.S.Store c.args.conn.now in
-    let s1 = state g.S.Store c.instruction.new.conn in
-    let s2 = state g.S.Store c.standing.new.conn in
+    let s0 = g.S.Session.state c.args.conn.now in
+    let s1 = g.S.Session.state c.instruction.new.conn in
+    let s2 = g.S.Session.state c.standing.new.conn in
     let e = c.in_err-standing.field-0.0 in
     on_error c.from_residual-in_err-standing.result e (ForCause s0 s2) c.from_residual-in_err-standing.ensures.1
     (caused_error e s0 s1 s2 (s1.now ≡ s0.now) c.in_ok-later.ensures.look.later c.in_err-standing.ensures.look.later (looked _ s0 s1 (λ d. d ≡ s0.now) c.in_ok-later.ensures.look refl)
@@ -69,10 +68,10 @@ returns-in_err-standing-clause-blame g c clean is_open has desk mate earlier lat
 
 pub returns-in_err-earlier-clause-blame : goal.returns-in_err-earlier-clause-blame
 returns-in_err-earlier-clause-blame g c clean is_open has desk mate earlier later pair =
-    let s0 = state g.S.Store c.args.conn.now in
-    let s1 = state g.S.Store c.instruction.new.conn in
-    let s2 = state g.S.Store c.standing.new.conn in
-    let s3 = state g.S.Store c.instruction-2.new.conn in
+    let s0 = g.S.Session.state c.args.conn.now in
+    let s1 = g.S.Session.state c.instruction.new.conn in
+    let s2 = g.S.Session.state c.standing.new.conn in
+    let s3 = g.S.Session.state c.instruction-2.new.conn in
     let e = c.in_err-earlier.field-0.0 in
     let clean2 : HasCleanDisk s2 = was_clean _ _ c.in_err-earlier.ensures.look.later clean in
     let clean1 : HasCleanDisk s1 = was_clean _ _ c.in_ok-standing.ensures.look.later clean2 in
@@ -98,24 +97,24 @@ returns-in_err-earlier-clause-value g c clean is_open has desk = no_value c.from
 
 pub returns-in_err-later-clause-look : goal.returns-in_err-later-clause-look
 returns-in_err-later-clause-look g c =
-    let s0 = state g.S.Store c.args.conn.now in
-    let s1 = state g.S.Store c.instruction.new.conn in
+    let s0 = g.S.Session.state c.args.conn.now in
+    let s1 = g.S.Session.state c.instruction.new.conn in
     look_only c.from_residual.result c.in_err-later.field-0.0 c.from_residual.ensures.1 _ s0 s1 c.in_err-later.ensures.look
 
 pub returns-in_err-earlier-clause-look : goal.returns-in_err-earlier-clause-look
 returns-in_err-earlier-clause-look g c =
-    let s0 = state g.S.Store c.args.conn.now in
-    let s1 = state g.S.Store c.instruction.new.conn in
-    let s2 = state g.S.Store c.standing.new.conn in
-    let s3 = state g.S.Store c.instruction-2.new.conn in
+    let s0 = g.S.Session.state c.args.conn.now in
+    let s1 = g.S.Session.state c.instruction.new.conn in
+    let s2 = g.S.Session.state c.standing.new.conn in
+    let s3 = g.S.Session.state c.instruction-2.new.conn in
     look_handed c.in_ok-standing.standing s0 s2 s3 (look_then c.in_ok-later.later (Ok c.in_ok-standing.standing) s0 s1 s2 c.in_ok-later.ensures.look c.in_ok-standing.ensures.look) c.from_residual-in_err-earlier.result c.in_err-earlier.field-0.0 c.from_residual-in_err-earlier.ensures.1 c.in_err-earlier.ensures.look
 
 pub returns-clause-look : goal.returns-clause-look
 returns-clause-look g c =
-    let s0 = state g.S.Store c.args.conn.now in
-    let s1 = state g.S.Store c.instruction.new.conn in
-    let s2 = state g.S.Store c.standing.new.conn in
-    let s3 = state g.S.Store c.instruction-2.new.conn in
+    let s0 = g.S.Session.state c.args.conn.now in
+    let s1 = g.S.Session.state c.instruction.new.conn in
+    let s2 = g.S.Session.state c.standing.new.conn in
+    let s3 = g.S.Session.state c.instruction-2.new.conn in
     look_ok c.in_ok-earlier.earlier _ s0 s3 (look_then c.in_ok-standing.standing (Ok c.in_ok-earlier.earlier) s0 s2 s3 (look_then c.in_ok-later.later (Ok c.in_ok-standing.standing) s0 s1 s2 c.in_ok-later.ensures.look c.in_ok-standing.ensures.look) c.in_ok-earlier.ensures.look)
 
 pub returns-in_default-clause-value : goal.returns-in_default-clause-value
@@ -123,15 +122,15 @@ returns-in_default-clause-value g c clean is_open has desk = tt
 
 pub returns-in_default-clause-look : goal.returns-in_default-clause-look
 returns-in_default-clause-look g c =
-    let s0 = state g.S.Store c.args.conn.now in
-    let s1 = state g.S.Store c.instruction.new.conn in
-    let s2 = state g.S.Store c.standing.new.conn in
+    let s0 = g.S.Session.state c.args.conn.now in
+    let s1 = g.S.Session.state c.instruction.new.conn in
+    let s2 = g.S.Session.state c.standing.new.conn in
     look_as c.in_ok-standing.standing _ s0 s2 (look_then c.in_ok-later.later (Ok c.in_ok-standing.standing) s0 s1 s2 c.in_ok-later.ensures.look c.in_ok-standing.ensures.look)
 
 pub returns-in_default-clause-blame : goal.returns-in_default-clause-blame
 returns-in_default-clause-blame g c clean is_open has desk mate earlier later pair =
-    let s0 = state g.S.Store c.args.conn.now in
-    let s1 = state g.S.Store c.instruction.new.conn in
+    let s0 = g.S.Session.state c.args.conn.now in
+    let s1 = g.S.Session.state c.instruction.new.conn in
     let clean1 : HasCleanDisk s1 = was_clean _ _ c.in_ok-standing.ensures.look.later clean in
     let same1 = c.in_ok-later.ensures.look.ok clean1 is_open has in
     let has1 : s1.now.schema ≡ desk_schema = ap (λ (d : Database). d.schema) same1.now ∙ has in

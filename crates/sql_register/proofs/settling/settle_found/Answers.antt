@@ -1,6 +1,5 @@
 use Rattle.std.proofs.Common.{Err, ℕ, ◌∙◌, subst, sym, Ok, ◌≡◌, [], ◌∷◌}
 use Rattle.sqlite.specs.Effect.{Database}
-use Rattle.sqlite.specs.Held.{state}
 use Rattle.sqlite.specs.State.{HasCleanDisk}
 use Rattle.desk_register.specs.Changes.{TriesPair}
 use Rattle.sql_register.specs.Content.{content_in}
@@ -20,19 +19,19 @@ use Rattle.sql_register.proofs.settling.settle_found.Goals as goal
 
 pub returns-clause-trial : goal.returns-clause-trial
 returns-clause-trial g c =
-    let s0 = state g.S.Store c.args.conn.now in
-    let s2 = state g.S.Store c.move_both.new.conn in
-    let s3 = state g.S.Store c.stand_both.new.conn in
-    let s4 = state g.S.Store c.release.new.conn in
+    let s0 = g.S.Session.state c.args.conn.now in
+    let s2 = g.S.Session.state c.move_both.new.conn in
+    let s3 = g.S.Session.state c.stand_both.new.conn in
+    let s4 = g.S.Session.state c.release.new.conn in
     let t3 = write_marked c.in_ok-outcome.outcome (Ok c.in_ok-stand_both.field-0) s0 s2 s3 c.in_ok-outcome.ensures.trial c.in_ok-stand_both.ensures.write in
     trial_as c.in_ok-release.field-0 c.in_ok-outcome.outcome s0 s4 _ (release_trial c.in_ok-stand_both.field-0 (Ok c.in_ok-release.field-0) s0 s3 s4 t3 c.in_ok-release.ensures.ok c.in_ok-release.ensures.err c.in_ok-release.ensures.why c.in_ok-release.ensures.opened c.in_ok-release.ensures.later)
 
 pub returns-clause-changed : goal.returns-clause-changed
 returns-clause-changed g c clean is_open has desk day can pair inside none =
-    let s0 = state g.S.Store c.args.conn.now in
-    let s2 = state g.S.Store c.move_both.new.conn in
-    let s3 = state g.S.Store c.stand_both.new.conn in
-    let s4 = state g.S.Store c.release.new.conn in
+    let s0 = g.S.Session.state c.args.conn.now in
+    let s2 = g.S.Session.state c.move_both.new.conn in
+    let s3 = g.S.Session.state c.stand_both.new.conn in
+    let s4 = g.S.Session.state c.release.new.conn in
     let clean3 : HasCleanDisk s3 = was_clean _ _ c.in_ok-release.ensures.later clean in
     let clean2 : HasCleanDisk s2 = was_clean _ _ c.in_ok-stand_both.ensures.write.later clean3 in
     let p = c.args.pair.now in
@@ -50,17 +49,17 @@ returns-clause-changed g c clean is_open has desk day can pair inside none =
 
 pub returns-in_err-outcome-clause-blame : goal.returns-in_err-outcome-clause-blame
 returns-in_err-outcome-clause-blame g c clean is_open has desk day can pair inside none =
-    let s0 = state g.S.Store c.args.conn.now in
+    let s0 = g.S.Session.state c.args.conn.now in
     let p = c.args.pair.now in
     let e = c.in_err-outcome.field-0.0 in
-    on_error c.from_residual.result e (ForCause s0 (state g.S.Store c.move_both.new.conn)) c.from_residual.ensures.1
+    on_error c.from_residual.result e (ForCause s0 (g.S.Session.state c.move_both.new.conn)) c.from_residual.ensures.1
     (c.in_err-outcome.ensures.blame clean is_open has desk.amounts (sides_fit (content_in s0.now) p.mate p.number day p.earlier p.later can pair) inside none)
 
 pub returns-in_err-stand_both-clause-blame : goal.returns-in_err-stand_both-clause-blame
 returns-in_err-stand_both-clause-blame g c clean is_open has desk day can pair inside none =
-    let s0 = state g.S.Store c.args.conn.now in
-    let s2 = state g.S.Store c.move_both.new.conn in
-    let s3 = state g.S.Store c.stand_both.new.conn in
+    let s0 = g.S.Session.state c.args.conn.now in
+    let s2 = g.S.Session.state c.move_both.new.conn in
+    let s3 = g.S.Session.state c.stand_both.new.conn in
     let p = c.args.pair.now in
     let content = content_in s0.now in
     let e = c.in_err-stand_both.field-0.0 in
@@ -76,10 +75,10 @@ returns-in_err-stand_both-clause-blame g c clean is_open has desk day can pair i
 
 pub returns-in_err-release-clause-blame : goal.returns-in_err-release-clause-blame
 returns-in_err-release-clause-blame g c clean is_open has desk day can pair inside none =
-    let s0 = state g.S.Store c.args.conn.now in
-    let s2 = state g.S.Store c.move_both.new.conn in
-    let s3 = state g.S.Store c.stand_both.new.conn in
-    let s4 = state g.S.Store c.release.new.conn in
+    let s0 = g.S.Session.state c.args.conn.now in
+    let s2 = g.S.Session.state c.move_both.new.conn in
+    let s3 = g.S.Session.state c.stand_both.new.conn in
+    let s4 = g.S.Session.state c.release.new.conn in
     let e = c.in_err-release.field-0.0 in
     let moved = marked c.in_ok-outcome.outcome s0 s2 (s2.marks ≡ mark_at s0.now ∷ []) c.in_ok-outcome.ensures.trial inside none (λ clean1 open0 has0 mark. mark.marks) in
     let closed = wrote_then _ s0 s2 s3 (s2.marks ≡ mark_at s0.now ∷ []) (s3.marks ≡ mark_at s0.now ∷ []) moved c.in_ok-stand_both.ensures.write (λ clean3 open2 has2 it. (c.in_ok-stand_both.ensures.write.ok clean3 open2 has2).marks ∙ it) in
@@ -98,23 +97,23 @@ returns-in_err-release-clause-changed g c clean is_open has desk day can pair in
 
 pub returns-in_err-outcome-clause-trial : goal.returns-in_err-outcome-clause-trial
 returns-in_err-outcome-clause-trial g c =
-    let s0 = state g.S.Store c.args.conn.now in
-    let s2 = state g.S.Store c.move_both.new.conn in
+    let s0 = g.S.Session.state c.args.conn.now in
+    let s2 = g.S.Session.state c.move_both.new.conn in
     trial_handed c.from_residual.result c.in_err-outcome.field-0.0 c.from_residual.ensures.1 _ s0 s2 _ _ c.in_err-outcome.ensures.trial
 
 pub returns-in_err-stand_both-clause-trial : goal.returns-in_err-stand_both-clause-trial
 returns-in_err-stand_both-clause-trial g c =
-    let s0 = state g.S.Store c.args.conn.now in
-    let s2 = state g.S.Store c.move_both.new.conn in
-    let s3 = state g.S.Store c.stand_both.new.conn in
+    let s0 = g.S.Session.state c.args.conn.now in
+    let s2 = g.S.Session.state c.move_both.new.conn in
+    let s3 = g.S.Session.state c.stand_both.new.conn in
     trial_fell c.from_residual-in_err-stand_both.result c.in_err-stand_both.field-0.0 c.from_residual-in_err-stand_both.ensures.1 _ c.in_ok-outcome.outcome s0 s2 s3 _ c.in_ok-outcome.ensures.trial c.in_err-stand_both.ensures.write
 
 pub returns-in_err-release-clause-trial : goal.returns-in_err-release-clause-trial
 returns-in_err-release-clause-trial g c =
-    let s0 = state g.S.Store c.args.conn.now in
-    let s2 = state g.S.Store c.move_both.new.conn in
-    let s3 = state g.S.Store c.stand_both.new.conn in
-    let s4 = state g.S.Store c.release.new.conn in
+    let s0 = g.S.Session.state c.args.conn.now in
+    let s2 = g.S.Session.state c.move_both.new.conn in
+    let s3 = g.S.Session.state c.stand_both.new.conn in
+    let s4 = g.S.Session.state c.release.new.conn in
     let t3 = write_marked c.in_ok-outcome.outcome (Ok c.in_ok-stand_both.field-0) s0 s2 s3 c.in_ok-outcome.ensures.trial c.in_ok-stand_both.ensures.write in
     let e = c.in_err-release.ensures in
     trial_handed c.from_residual-in_err-release.result c.in_err-release.field-0.0 c.from_residual-in_err-release.ensures.1 ℕ s0 s4 _ _ (release_trial {Y = ℕ} c.in_ok-stand_both.field-0 (Err c.in_err-release.field-0.0) s0 s3 s4 t3 e.ok e.err e.why e.opened e.later)

@@ -1,6 +1,5 @@
 use Rattle.std.proofs.Common.{◌≡◌, ◌∙◌, sym, ap, subst, ℕ, IfOk}
 use Rattle.sqlite.specs.Effect.{Database}
-use Rattle.sqlite.specs.Held.{state}
 use Rattle.sqlite.specs.State.{HasCleanDisk}
 use Rattle.desk_register.specs.Changes.{CanSettle, IsPairAt, TriesPair}
 use Rattle.sql_tables.specs.Schema.{desk_schema}
@@ -15,13 +14,13 @@ use Rattle.sql_register.proofs.settling.settle_pair.Goals as goal
 
 pub returns-clause-trial : goal.returns-clause-trial
 returns-clause-trial g c =
-    look_trial c.in_ok-pair.pair c.settle_found.result (state g.S.Store c.args.conn.now) (state g.S.Store c.pair_at.new.conn) (state g.S.Store c.settle_found.new.conn) c.in_ok-pair.ensures.look c.settle_found.ensures.trial
+    look_trial c.in_ok-pair.pair c.settle_found.result (g.S.Session.state c.args.conn.now) (g.S.Session.state c.pair_at.new.conn) (g.S.Session.state c.settle_found.new.conn) c.in_ok-pair.ensures.look c.settle_found.ensures.trial
 
 pub returns-clause-changed : goal.returns-clause-changed
 returns-clause-changed g c clean is_open has desk day can inside none =
-    let s0 = state g.S.Store c.args.conn.now in
-    let s1 = state g.S.Store c.pair_at.new.conn in
-    let s2 = state g.S.Store c.settle_found.new.conn in
+    let s0 = g.S.Session.state c.args.conn.now in
+    let s1 = g.S.Session.state c.pair_at.new.conn in
+    let s2 = g.S.Session.state c.settle_found.new.conn in
     let clean1 : HasCleanDisk s1 = was_clean _ _ c.settle_found.ensures.trial.later clean in
     let same = c.in_ok-pair.ensures.look.ok clean1 is_open has in
     let found = c.in_ok-pair.ensures.value clean1 is_open has desk in
@@ -37,16 +36,16 @@ returns-clause-changed g c clean is_open has desk day can inside none =
 
 pub returns-in_err-pair-clause-blame : goal.returns-in_err-pair-clause-blame
 returns-in_err-pair-clause-blame g c clean is_open has desk day can inside none =
-    let s0 = state g.S.Store c.args.conn.now in
+    let s0 = g.S.Session.state c.args.conn.now in
     let e = c.in_err-pair.field-0.0 in
-    on_error c.from_residual.result e (ForCause s0 (state g.S.Store c.pair_at.new.conn)) c.from_residual.ensures.1
+    on_error c.from_residual.result e (ForCause s0 (g.S.Session.state c.pair_at.new.conn)) c.from_residual.ensures.1
     (c.in_err-pair.ensures.blame clean is_open has desk can.mate can.earlier can.later can.pair)
 
 pub returns-clause-blame : goal.returns-clause-blame
 returns-clause-blame g c clean is_open has desk day can inside none =
-    let s0 = state g.S.Store c.args.conn.now in
-    let s1 = state g.S.Store c.pair_at.new.conn in
-    let s2 = state g.S.Store c.settle_found.new.conn in
+    let s0 = g.S.Session.state c.args.conn.now in
+    let s1 = g.S.Session.state c.pair_at.new.conn in
+    let s2 = g.S.Session.state c.settle_found.new.conn in
     let clean1 : HasCleanDisk s1 = was_clean _ _ c.settle_found.ensures.trial.later clean in
     let found = c.in_ok-pair.ensures.value clean1 is_open has desk in
     let p = c.in_ok-pair.pair in

@@ -1,6 +1,5 @@
 use Rattle.std.proofs.Common.{rules, Option, IfOk, ◌<◌, ◌^◌, arith, lit<, sym, subst}
 use Rattle.std.proofs.lemmas.Result.{IfOk-weaker}
-use Rattle.sqlite.specs.Held.{state}
 use Rattle.desk_msg.specs.declared.instruction.Cash.{Cash}
 use Rattle.desk_rules.proofs.ShortNumbers.{short_amount}
 use Rattle.sql_register.specs.Settling.{TakesCash}
@@ -16,5 +15,5 @@ take-requires g c =
 
 pub returns-in-Some-clause-changed : goal.returns-in-Some-clause-changed
 returns-in-Some-clause-changed g c clean is_open has amounts =
-    subst (λ (o : Option Cash). IfOk c.take.result (TakesCash (state g.S.Store c.args.conn.now).now (state g.S.Store c.take.new.conn).now c.args.bic o)) (sym c.in-Some.is)
-    (IfOk-weaker c.take.result _ _ (takes_cash (state g.S.Store c.args.conn.now).now (state g.S.Store c.take.new.conn).now c.args.bic c.in-Some.field-0) (c.take.ensures.changed clean is_open has amounts))
+    subst (λ (o : Option Cash). IfOk c.take.result (TakesCash (g.S.Session.state c.args.conn.now).now (g.S.Session.state c.take.new.conn).now c.args.bic o)) (sym c.in-Some.is)
+    (IfOk-weaker c.take.result _ _ (takes_cash (g.S.Session.state c.args.conn.now).now (g.S.Session.state c.take.new.conn).now c.args.bic c.in-Some.field-0) (c.take.ensures.changed clean is_open has amounts))

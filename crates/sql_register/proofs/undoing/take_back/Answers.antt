@@ -1,6 +1,5 @@
 use Rattle.std.proofs.Common.{◌≡◌, ◌∙◌, ap}
 use Rattle.sqlite.specs.Effect.{Database}
-use Rattle.sqlite.specs.Held.{state}
 use Rattle.sqlite.specs.State.{HasCleanDisk}
 use Rattle.sql_tables.specs.Schema.{desk_schema}
 use Rattle.sql_register.proofs.CauseLemmas.{caused_from}
@@ -9,9 +8,9 @@ use Rattle.sql_register.proofs.undoing.take_back.Goals as goal
 
 pub returns-clause-blame : goal.returns-clause-blame
 returns-clause-blame g c clean is_open has still =
-    let s0 = state g.S.Store c.args.conn.now in
-    let s1 = state g.S.Store c.roll_back.new.conn in
-    let s2 = state g.S.Store c.probe-2.new.conn in
+    let s0 = g.S.Session.state c.args.conn.now in
+    let s1 = g.S.Session.state c.roll_back.new.conn in
+    let s2 = g.S.Session.state c.probe-2.new.conn in
     let clean1 : HasCleanDisk s1 = was_clean _ _ c.probe-2.ensures.look.later clean in
     let clean0 : HasCleanDisk s0 = was_clean _ _ c.in_ok-roll_back.ensures.later clean1 in
     let open1 = c.probe-2.ensures.look.opened clean still in

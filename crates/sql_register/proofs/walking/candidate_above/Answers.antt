@@ -1,6 +1,5 @@
 use Rattle.std.proofs.Common.{◌≡◌, ◌∙◌, ap, subst, ℕ, ◌<◌, Option, IfSome, Ok, Err}
 use Rattle.sqlite.specs.declared.error.Error.{Error}
-use Rattle.sqlite.specs.Held.{state}
 use Rattle.sqlite.specs.State.{HasCleanDisk}
 use Rattle.desk_rules.specs.Content.{history_of}
 use Rattle.desk_rules.specs.declared.history.standing.Standing.{Standing}
@@ -19,9 +18,9 @@ use Rattle.sql_register.proofs.walking.candidate_above.Goals as goal
 
 pub returns-clause-value : goal.returns-clause-value
 returns-clause-value g c clean is_open has desk =
-    let s0 = state g.S.Store c.args.conn.now in
-    let s1 = state g.S.Store c.next_opposite.new.conn in
-    let s2 = state g.S.Store c.standing.new.conn in
+    let s0 = g.S.Session.state c.args.conn.now in
+    let s1 = g.S.Session.state c.next_opposite.new.conn in
+    let s2 = g.S.Session.state c.standing.new.conn in
     let i : Instructed = record { sender = c.args.sender; instruction = c.args.instruction.now } in
     let number = c.in-Some.number in
     let looked = c.in_ok-standing.ensures.look in
@@ -34,9 +33,9 @@ returns-clause-value g c clean is_open has desk =
 
 pub returns-in_err-standing-clause-blame : goal.returns-in_err-standing-clause-blame
 returns-in_err-standing-clause-blame g c clean is_open has desk =
-    let s0 = state g.S.Store c.args.conn.now in
-    let s1 = state g.S.Store c.next_opposite.new.conn in
-    let s2 = state g.S.Store c.standing.new.conn in
+    let s0 = g.S.Session.state c.args.conn.now in
+    let s1 = g.S.Session.state c.next_opposite.new.conn in
+    let s2 = g.S.Session.state c.standing.new.conn in
     let e = c.in_err-standing.field-0.0 in
     on_error c.from_residual-in_err-standing.result e (ForCause s0 s2) c.from_residual-in_err-standing.ensures.1
     (fails_then _ s0 s1 s2 c.in_ok-found.ensures.look e (λ d. Unit {0}) c.in_err-standing.ensures.look.later
@@ -44,13 +43,13 @@ returns-in_err-standing-clause-blame g c clean is_open has desk =
 
 pub returns-in_default-clause-value : goal.returns-in_default-clause-value
 returns-in_default-clause-value g c clean is_open has desk =
-    let s0 = state g.S.Store c.args.conn.now in
+    let s0 = g.S.Session.state c.args.conn.now in
     let i : Instructed = record { sender = c.args.sender; instruction = c.args.instruction.now } in
     subst (IsNextOpposite (history_of (content_in s0.now)) i c.args.after) c.in_default.is (on_same {E = Error} (Ok c.in_ok-number.field-0) c.in_ok-found.found (IsNextOpposite (history_of (content_in s0.now)) i c.args.after) c.in_ok-number.ensures.same (c.in_ok-found.ensures.value clean is_open has (content_in s0.now).register desk.entries))
 
 pub returns-in_err-standing-clause-look : goal.returns-in_err-standing-clause-look
 returns-in_err-standing-clause-look g c =
-    look_handed _ (state g.S.Store c.args.conn.now) (state g.S.Store c.next_opposite.new.conn) (state g.S.Store c.standing.new.conn) c.in_ok-found.ensures.look c.from_residual-in_err-standing.result c.in_err-standing.field-0.0
+    look_handed _ (g.S.Session.state c.args.conn.now) (g.S.Session.state c.next_opposite.new.conn) (g.S.Session.state c.standing.new.conn) c.in_ok-found.ensures.look c.from_residual-in_err-standing.result c.in_err-standing.field-0.0
     c.from_residual-in_err-standing.ensures.1 c.in_err-standing.ensures.look
 
 pub returns-in_err-found-clause-value : goal.returns-in_err-found-clause-value
@@ -60,11 +59,11 @@ pub returns-in_err-found-clause-within : goal.returns-in_err-found-clause-within
 returns-in_err-found-clause-within g c = no_value c.from_residual.result c.in_err-found.field-0.0 c.from_residual.ensures.1 _
 
 pub returns-in_err-found-clause-look : goal.returns-in_err-found-clause-look
-returns-in_err-found-clause-look g c = look_only c.from_residual.result c.in_err-found.field-0.0 c.from_residual.ensures.1 (Option ℕ) (state g.S.Store c.args.conn.now) (state g.S.Store c.next_opposite.new.conn) c.in_err-found.ensures.look
+returns-in_err-found-clause-look g c = look_only c.from_residual.result c.in_err-found.field-0.0 c.from_residual.ensures.1 (Option ℕ) (g.S.Session.state c.args.conn.now) (g.S.Session.state c.next_opposite.new.conn) c.in_err-found.ensures.look
 
 pub returns-in_err-found-clause-blame : goal.returns-in_err-found-clause-blame
 returns-in_err-found-clause-blame g c clean is_open has desk =
-    on_error c.from_residual.result c.in_err-found.field-0.0 (ForCause (state g.S.Store c.args.conn.now) (state g.S.Store c.next_opposite.new.conn)) c.from_residual.ensures.1 (c.in_err-found.ensures.blame clean is_open has (content_in (state g.S.Store c.args.conn.now).now).register desk.entries)
+    on_error c.from_residual.result c.in_err-found.field-0.0 (ForCause (g.S.Session.state c.args.conn.now) (g.S.Session.state c.next_opposite.new.conn)) c.from_residual.ensures.1 (c.in_err-found.ensures.blame clean is_open has (content_in (g.S.Session.state c.args.conn.now).now).register desk.entries)
 
 pub returns-in_err-number-clause-value : goal.returns-in_err-number-clause-value
 returns-in_err-number-clause-value g c clean is_open has desk = no_value c.from_residual-in_err-number.result c.in_err-number.field-0.0 c.from_residual-in_err-number.ensures.1 _
@@ -74,15 +73,15 @@ returns-in_err-number-clause-within g c = no_value c.from_residual-in_err-number
 
 pub returns-in_err-number-clause-look : goal.returns-in_err-number-clause-look
 returns-in_err-number-clause-look g c =
-    let s0 = state g.S.Store c.args.conn.now in
-    let s1 = state g.S.Store c.next_opposite.new.conn in
+    let s0 = g.S.Session.state c.args.conn.now in
+    let s1 = g.S.Session.state c.next_opposite.new.conn in
     let e = c.in_err-number.field-0.0 in
     look_only c.from_residual-in_err-number.result e c.from_residual-in_err-number.ensures.1 (Option ℕ) s0 s1 (look_as c.in_ok-found.found e s0 s1 c.in_ok-found.ensures.look)
 
 pub returns-in_err-number-clause-blame : goal.returns-in_err-number-clause-blame
 returns-in_err-number-clause-blame g c clean is_open has desk =
-    let s0 = state g.S.Store c.args.conn.now in
-    let s1 = state g.S.Store c.next_opposite.new.conn in
+    let s0 = g.S.Session.state c.args.conn.now in
+    let s1 = g.S.Session.state c.next_opposite.new.conn in
     let i : Instructed = record { sender = c.args.sender; instruction = c.args.instruction.now } in
     let e = c.in_err-number.field-0.0 in
     on_error c.from_residual-in_err-number.result e (ForCause s0 s1) c.from_residual-in_err-number.ensures.1
@@ -93,7 +92,7 @@ pub returns-in_default-clause-within : goal.returns-in_default-clause-within
 returns-in_default-clause-within g c = tt
 
 pub returns-in_default-clause-look : goal.returns-in_default-clause-look
-returns-in_default-clause-look g c = look_ok _ _ (state g.S.Store c.args.conn.now) (state g.S.Store c.next_opposite.new.conn) c.in_ok-found.ensures.look
+returns-in_default-clause-look g c = look_ok _ _ (g.S.Session.state c.args.conn.now) (g.S.Session.state c.next_opposite.new.conn) c.in_ok-found.ensures.look
 
 pub returns-in_default-clause-blame : goal.returns-in_default-clause-blame
 returns-in_default-clause-blame g c clean is_open has desk = tt
@@ -108,7 +107,7 @@ pub returns-clause-within : goal.returns-clause-within
 returns-clause-within g c = subst (λ o. IfSome o (λ n. (c.args.after < n) × (n < 1_000_000_000))) c.in-Some.is c.in_ok-number.ensures.within
 
 pub returns-clause-look : goal.returns-clause-look
-returns-clause-look g c = look_ok _ _ (state g.S.Store c.args.conn.now) (state g.S.Store c.standing.new.conn) (look_then _ _ (state g.S.Store c.args.conn.now) (state g.S.Store c.next_opposite.new.conn) (state g.S.Store c.standing.new.conn) c.in_ok-found.ensures.look c.in_ok-standing.ensures.look)
+returns-clause-look g c = look_ok _ _ (g.S.Session.state c.args.conn.now) (g.S.Session.state c.standing.new.conn) (look_then _ _ (g.S.Session.state c.args.conn.now) (g.S.Session.state c.next_opposite.new.conn) (g.S.Session.state c.standing.new.conn) c.in_ok-found.ensures.look c.in_ok-standing.ensures.look)
 
 pub returns-clause-blame : goal.returns-clause-blame
 returns-clause-blame g c clean is_open has desk = tt

@@ -1,6 +1,5 @@
 use Rattle.std.proofs.Common.{◌<◌, arith, subst, sym, IfSome}
 use Rattle.sqlite.specs.Effect.{Database}
-use Rattle.sqlite.specs.Held.{state}
 use Rattle.sqlite.specs.State.{HasCleanDisk}
 use Rattle.desk_codes.specs.Number.{number_of}
 use Rattle.sql_tables.specs.Ends.{ForCause}
@@ -14,7 +13,7 @@ use Rattle.sql_register.proofs.walking.due_pair_after.Goals as goal
 
 pub loop-number-init : goal.loop-number-init
 loop-number-init g c =
-    let s0 = state g.S.Store c.args.conn.now in
+    let s0 = g.S.Session.state c.args.conn.now in
     record { look = look_none tt s0; small = omega arith; sooner = λ clean is_open has desk. none_due (content_in s0.now) (number_of c.args.day) c.args.place }
 
 pub pair_above-requires : goal.pair_above-requires
@@ -22,14 +21,14 @@ pair_above-requires g c = let small = c.loop-number.invariant.small in omega (ar
 
 pub returns-in_err-number-clause-look : goal.returns-in_err-number-clause-look
 returns-in_err-number-clause-look g c =
-    look_handed tt (state g.S.Store c.args.conn.now) (state g.S.Store c.loop-number.conn) (state g.S.Store c.pair_above.new.conn) c.loop-number.invariant.look c.from_residual.result c.in_err-number.field-0.0
+    look_handed tt (g.S.Session.state c.args.conn.now) (g.S.Session.state c.loop-number.conn) (g.S.Session.state c.pair_above.new.conn) c.loop-number.invariant.look c.from_residual.result c.in_err-number.field-0.0
     c.from_residual.ensures.1 c.in_err-number.ensures.look
 
 pub returns-in_err-number-clause-blame : goal.returns-in_err-number-clause-blame
 returns-in_err-number-clause-blame g c clean is_open has desk =
-    let s0 = state g.S.Store c.args.conn.now in
-    let s1 = state g.S.Store c.loop-number.conn in
-    let s2 = state g.S.Store c.pair_above.new.conn in
+    let s0 = g.S.Session.state c.args.conn.now in
+    let s1 = g.S.Session.state c.loop-number.conn in
+    let s2 = g.S.Session.state c.pair_above.new.conn in
     let e = c.in_err-number.field-0.0 in
     on_error c.from_residual.result e (ForCause s0 s2) c.from_residual.ensures.1
     (fails_then tt s0 s1 s2 c.loop-number.invariant.look e (λ d. Unit {0}) c.in_err-number.ensures.look.later (λ clean2 open1 has1 desk1 u. c.in_err-number.ensures.blame clean2 open1 has1 desk1) clean is_open has desk tt)
@@ -43,9 +42,9 @@ loop-number-smaller g c =
 
 pub loop-number-preserved : goal.loop-number-preserved
 loop-number-preserved g c =
-    let s0 = state g.S.Store c.args.conn.now in
-    let s1 = state g.S.Store c.loop-number.conn in
-    let s2 = state g.S.Store c.pair_above.new.conn in
+    let s0 = g.S.Session.state c.args.conn.now in
+    let s1 = g.S.Session.state c.loop-number.conn in
+    let s2 = g.S.Session.state c.pair_above.new.conn in
     let day = number_of c.args.day in
     let looked = c.in_ok-number.ensures.look in
     record {
@@ -62,9 +61,9 @@ loop-number-preserved g c =
 
 pub returns-clause-value : goal.returns-clause-value
 returns-clause-value g c clean is_open has desk =
-    let s0 = state g.S.Store c.args.conn.now in
-    let s1 = state g.S.Store c.loop-number.conn in
-    let s2 = state g.S.Store c.pair_above.new.conn in
+    let s0 = g.S.Session.state c.args.conn.now in
+    let s1 = g.S.Session.state c.loop-number.conn in
+    let s2 = g.S.Session.state c.pair_above.new.conn in
     let day = number_of c.args.day in
     let looked = c.in_ok-number.ensures.look in
     let clean1 : HasCleanDisk s1 = was_clean _ _ looked.later clean in
@@ -74,7 +73,7 @@ returns-clause-value g c clean is_open has desk =
 
 pub returns-clause-look : goal.returns-clause-look
 returns-clause-look g c =
-    let s0 = state g.S.Store c.args.conn.now in
-    let s1 = state g.S.Store c.loop-number.conn in
-    let s2 = state g.S.Store c.pair_above.new.conn in
+    let s0 = g.S.Session.state c.args.conn.now in
+    let s1 = g.S.Session.state c.loop-number.conn in
+    let s2 = g.S.Session.state c.pair_above.new.conn in
     look_ok tt c.loop-number.first s0 s2 (look_more _ s0 s1 s2 c.loop-number.invariant.look c.in_ok-number.ensures.look)

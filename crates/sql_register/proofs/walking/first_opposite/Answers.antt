@@ -1,6 +1,5 @@
 use Rattle.std.proofs.Common.{◌<◌, ◌∙◌, arith, subst, sym, IfSome, None, Some}
 use Rattle.sqlite.specs.Effect.{Database}
-use Rattle.sqlite.specs.Held.{state}
 use Rattle.sqlite.specs.State.{HasCleanDisk}
 use Rattle.desk_rules.specs.declared.history.entry.Instructed.{Instructed}
 use Rattle.sql_tables.specs.Ends.{ForCause}
@@ -14,7 +13,7 @@ use Rattle.sql_register.proofs.walking.first_opposite.Goals as goal
 
 pub loop-number-init : goal.loop-number-init
 loop-number-init g c =
-    let s0 = state g.S.Store c.args.conn.now in
+    let s0 = g.S.Session.state c.args.conn.now in
     let i : Instructed = record { sender = c.args.sender; instruction = c.args.instruction.now } in
     record { look = look_none tt s0; small = omega arith; passed = λ clean is_open has desk. none_passed s0.now desk i }
 
@@ -23,23 +22,23 @@ candidate_above-requires g c = let small = c.loop-number.invariant.small in omeg
 
 pub returns-in_err-number-clause-look : goal.returns-in_err-number-clause-look
 returns-in_err-number-clause-look g c =
-    look_handed tt (state g.S.Store c.args.conn.now) (state g.S.Store c.loop-number.conn) (state g.S.Store c.candidate_above.new.conn) c.loop-number.invariant.look c.from_residual.result c.in_err-number.field-0.0
+    look_handed tt (g.S.Session.state c.args.conn.now) (g.S.Session.state c.loop-number.conn) (g.S.Session.state c.candidate_above.new.conn) c.loop-number.invariant.look c.from_residual.result c.in_err-number.field-0.0
     c.from_residual.ensures.1 c.in_err-number.ensures.look
 
 pub returns-in_err-number-clause-blame : goal.returns-in_err-number-clause-blame
 returns-in_err-number-clause-blame g c clean is_open has desk =
-    let s0 = state g.S.Store c.args.conn.now in
-    let s1 = state g.S.Store c.loop-number.conn in
-    let s2 = state g.S.Store c.candidate_above.new.conn in
+    let s0 = g.S.Session.state c.args.conn.now in
+    let s1 = g.S.Session.state c.loop-number.conn in
+    let s2 = g.S.Session.state c.candidate_above.new.conn in
     let e = c.in_err-number.field-0.0 in
     on_error c.from_residual.result e (ForCause s0 s2) c.from_residual.ensures.1
     (fails_then tt s0 s1 s2 c.loop-number.invariant.look e (λ d. Unit {0}) c.in_err-number.ensures.look.later (λ clean2 open1 has1 desk1 u. c.in_err-number.ensures.blame clean2 open1 has1 desk1) clean is_open has desk tt)
 
 pub returns-then-unmatched-clause-value : goal.returns-then-unmatched-clause-value
 returns-then-unmatched-clause-value g c clean is_open has desk =
-    let s0 = state g.S.Store c.args.conn.now in
-    let s1 = state g.S.Store c.loop-number.conn in
-    let s2 = state g.S.Store c.candidate_above.new.conn in
+    let s0 = g.S.Session.state c.args.conn.now in
+    let s1 = g.S.Session.state c.loop-number.conn in
+    let s2 = g.S.Session.state c.candidate_above.new.conn in
     let i : Instructed = record { sender = c.args.sender; instruction = c.args.instruction.now } in
     let looked = c.in_ok-number.ensures.look in
     let clean1 : HasCleanDisk s1 = was_clean _ _ looked.later clean in
@@ -49,9 +48,9 @@ returns-then-unmatched-clause-value g c clean is_open has desk =
 
 pub returns-then-unmatched-clause-look : goal.returns-then-unmatched-clause-look
 returns-then-unmatched-clause-look g c =
-    let s0 = state g.S.Store c.args.conn.now in
-    let s1 = state g.S.Store c.loop-number.conn in
-    let s2 = state g.S.Store c.candidate_above.new.conn in
+    let s0 = g.S.Session.state c.args.conn.now in
+    let s1 = g.S.Session.state c.loop-number.conn in
+    let s2 = g.S.Session.state c.candidate_above.new.conn in
     look_ok tt (Some c.in-Some.number) s0 s2 (look_more _ s0 s1 s2 c.loop-number.invariant.look c.in_ok-number.ensures.look)
 
 pub loop-number-smaller : goal.loop-number-smaller
@@ -63,9 +62,9 @@ loop-number-smaller g c =
 
 pub loop-number-preserved : goal.loop-number-preserved
 loop-number-preserved g c =
-    let s0 = state g.S.Store c.args.conn.now in
-    let s1 = state g.S.Store c.loop-number.conn in
-    let s2 = state g.S.Store c.candidate_above.new.conn in
+    let s0 = g.S.Session.state c.args.conn.now in
+    let s1 = g.S.Session.state c.loop-number.conn in
+    let s2 = g.S.Session.state c.candidate_above.new.conn in
     let i : Instructed = record { sender = c.args.sender; instruction = c.args.instruction.now } in
     let looked = c.in_ok-number.ensures.look in
     record {
@@ -80,9 +79,9 @@ loop-number-preserved g c =
 
 pub returns-clause-value : goal.returns-clause-value
 returns-clause-value g c clean is_open has desk =
-    let s0 = state g.S.Store c.args.conn.now in
-    let s1 = state g.S.Store c.loop-number.conn in
-    let s2 = state g.S.Store c.candidate_above.new.conn in
+    let s0 = g.S.Session.state c.args.conn.now in
+    let s1 = g.S.Session.state c.loop-number.conn in
+    let s2 = g.S.Session.state c.candidate_above.new.conn in
     let i : Instructed = record { sender = c.args.sender; instruction = c.args.instruction.now } in
     let looked = c.in_ok-number.ensures.look in
     let clean1 : HasCleanDisk s1 = was_clean _ _ looked.later clean in
@@ -91,7 +90,7 @@ returns-clause-value g c clean is_open has desk =
 
 pub returns-clause-look : goal.returns-clause-look
 returns-clause-look g c =
-    let s0 = state g.S.Store c.args.conn.now in
-    let s1 = state g.S.Store c.loop-number.conn in
-    let s2 = state g.S.Store c.candidate_above.new.conn in
+    let s0 = g.S.Session.state c.args.conn.now in
+    let s1 = g.S.Session.state c.loop-number.conn in
+    let s2 = g.S.Session.state c.candidate_above.new.conn in
     look_ok tt None s0 s2 (look_more _ s0 s1 s2 c.loop-number.invariant.look c.in_ok-number.ensures.look)

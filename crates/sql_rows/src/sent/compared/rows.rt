@@ -15,17 +15,18 @@ ghost use Rattle.sql_rows.specs.SentTold.{values_of};
 
 use desk_rules::Sent;
 use sql_tables::compared::same_row;
+use sql_tables::session::Session;
 use sql_tables::statement::query;
 use sql_tables::values::{integer, signed};
 use sqlite::types::ValueRef;
-use sqlite::{Alter, Connection, Error, Row};
+use sqlite::{Error, Row};
 
 /// The rows of a number.
-fn rows_at<S: Alter>(conn: &mut Connection<S>, number: u64) -> Result<Vec<Row>, Error>
+fn rows_at<S: Session>(conn: &mut S, number: u64) -> Result<Vec<Row>, Error>
     requires { number < 2 ^ 63 }
-    ensures shown { Soundly S.Store conn.old conn.new (IfOk result (λ rows. IsPermutation (map (shown_by 4) (filter (has_number number) ((tables S.Store conn.old).trees 9))) rows.items)) }
-    ensures look { Looks S.Store conn.old conn.new result }
-    ensures blame { Soundly S.Store conn.old conn.new (FailsForCause S.Store conn.old conn.new result) }
+    ensures shown { Soundly S.state conn.old conn.new (IfOk result (λ rows. IsPermutation (map (shown_by 4) (filter (has_number number) ((tables S.state conn.old).trees 9))) rows.items)) }
+    ensures look { Looks S.state conn.old conn.new result }
+    ensures blame { Soundly S.state conn.old conn.new (FailsForCause S.state conn.old conn.new result) }
 {
     query(
         conn,
@@ -35,11 +36,11 @@ fn rows_at<S: Alter>(conn: &mut Connection<S>, number: u64) -> Result<Vec<Row>, 
 }
 
 /// The numbers above one.
-fn rows_above<S: Alter>(conn: &mut Connection<S>, number: u64) -> Result<Vec<Row>, Error>
+fn rows_above<S: Session>(conn: &mut S, number: u64) -> Result<Vec<Row>, Error>
     requires { number < 2 ^ 63 }
-    ensures shown { Soundly S.Store conn.old conn.new (IfOk result (λ rows. rows.items ≡ [] ↔ filter (is_above number) ((tables S.Store conn.old).trees 9) ≡ [])) }
-    ensures look { Looks S.Store conn.old conn.new result }
-    ensures blame { Soundly S.Store conn.old conn.new (FailsForCause S.Store conn.old conn.new result) }
+    ensures shown { Soundly S.state conn.old conn.new (IfOk result (λ rows. rows.items ≡ [] ↔ filter (is_above number) ((tables S.state conn.old).trees 9) ≡ [])) }
+    ensures look { Looks S.state conn.old conn.new result }
+    ensures blame { Soundly S.state conn.old conn.new (FailsForCause S.state conn.old conn.new result) }
 {
     query(
         conn,
@@ -49,11 +50,11 @@ fn rows_above<S: Alter>(conn: &mut Connection<S>, number: u64) -> Result<Vec<Row
 }
 
 /// The numbers below one.
-fn rows_below<S: Alter>(conn: &mut Connection<S>, number: u64) -> Result<Vec<Row>, Error>
+fn rows_below<S: Session>(conn: &mut S, number: u64) -> Result<Vec<Row>, Error>
     requires { number < 2 ^ 63 }
-    ensures shown { Soundly S.Store conn.old conn.new (IfOk result (λ rows. rows.items ≡ [] ↔ filter (is_below number) ((tables S.Store conn.old).trees 9) ≡ [])) }
-    ensures look { Looks S.Store conn.old conn.new result }
-    ensures blame { Soundly S.Store conn.old conn.new (FailsForCause S.Store conn.old conn.new result) }
+    ensures shown { Soundly S.state conn.old conn.new (IfOk result (λ rows. rows.items ≡ [] ↔ filter (is_below number) ((tables S.state conn.old).trees 9) ≡ [])) }
+    ensures look { Looks S.state conn.old conn.new result }
+    ensures blame { Soundly S.state conn.old conn.new (FailsForCause S.state conn.old conn.new result) }
 {
     query(
         conn,
@@ -89,28 +90,24 @@ fn is_row_of(rows: &[Row], number: u64, message: &Sent) -> bool
 }
 
 /// Whether the row of a number is that of a message.
-pub fn has_row<S: Alter>(
-    conn: &mut Connection<S>,
-    number: u64,
-    message: &Sent,
-) -> Result<bool, Error>
+pub fn has_row<S: Session>(conn: &mut S, number: u64, message: &Sent) -> Result<bool, Error>
     requires { number < 2 ^ 63 }
-    ensures row { Soundly S.Store conn.old conn.new (AllByRecursion (HasForm sent_table) ((tables S.Store conn.old).trees 9)
-        → IfOk result (λ ok. IsTrue ok → HasOne ((tables S.Store conn.old).trees 9) number (values_of message.now))) }
-    ensures exact { Soundly S.Store conn.old conn.new (IfOk result (λ ok. HasOne ((tables S.Store conn.old).trees 9) number (values_of message.now) → IsTrue ok)) }
-    ensures look { Looks S.Store conn.old conn.new result }
-    ensures blame { Soundly S.Store conn.old conn.new (FailsForCause S.Store conn.old conn.new result) }
+    ensures row { Soundly S.state conn.old conn.new (AllByRecursion (HasForm sent_table) ((tables S.state conn.old).trees 9)
+        → IfOk result (λ ok. IsTrue ok → HasOne ((tables S.state conn.old).trees 9) number (values_of message.now))) }
+    ensures exact { Soundly S.state conn.old conn.new (IfOk result (λ ok. HasOne ((tables S.state conn.old).trees 9) number (values_of message.now) → IsTrue ok)) }
+    ensures look { Looks S.state conn.old conn.new result }
+    ensures blame { Soundly S.state conn.old conn.new (FailsForCause S.state conn.old conn.new result) }
 {
     let rows = rows_at(conn, number)?;
     Ok(is_row_of(&rows, number, message))
 }
 
 /// Whether there is no row below 1, nor above the last.
-pub fn has_no_other<S: Alter>(conn: &mut Connection<S>, count: u64) -> Result<bool, Error>
+pub fn has_no_other<S: Session>(conn: &mut S, count: u64) -> Result<bool, Error>
     requires { count < 2 ^ 63 }
-    ensures none { Soundly S.Store conn.old conn.new (IfOk result (λ ok. IsTrue ok ↔ HasNoOther ((tables S.Store conn.old).trees 9) count)) }
-    ensures look { Looks S.Store conn.old conn.new result }
-    ensures blame { Soundly S.Store conn.old conn.new (FailsForCause S.Store conn.old conn.new result) }
+    ensures none { Soundly S.state conn.old conn.new (IfOk result (λ ok. IsTrue ok ↔ HasNoOther ((tables S.state conn.old).trees 9) count)) }
+    ensures look { Looks S.state conn.old conn.new result }
+    ensures blame { Soundly S.state conn.old conn.new (FailsForCause S.state conn.old conn.new result) }
 {
     if !rows_above(conn, count)?.is_empty() {
         return Ok(false);

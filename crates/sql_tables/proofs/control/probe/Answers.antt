@@ -1,5 +1,4 @@
 use Rattle.std.proofs.Common.{Err}
-use Rattle.sqlite.specs.Held.{state}
 use Rattle.sql_tables.specs.Ends.{ForCause}
 use Rattle.sql_tables.proofs.EndLemmas.{show_opened}
 use Rattle.sql_tables.proofs.ControlLemmas.{probes, probe_caused}
@@ -10,10 +9,10 @@ pub query-requires : goal.query-requires
 query-requires g c = record { query = probes }
 
 pub returns-clause-shown : goal.returns-clause-shown
-returns-clause-shown g c clean = show_opened (state g.S.Store c.args.conn.now) (state g.S.Store c.query.new.conn) _ _ _ (c.in_ok-query.ensures.shown clean)
+returns-clause-shown g c clean = show_opened (g.S.Session.state c.args.conn.now) (g.S.Session.state c.query.new.conn) _ _ _ (c.in_ok-query.ensures.shown clean)
 
 pub returns-in_err-query-clause-blame : goal.returns-in_err-query-clause-blame
 returns-in_err-query-clause-blame g c clean is_open has =
-    let old = state g.S.Store c.args.conn.now in
-    let new = state g.S.Store c.query.new.conn in
+    let old = g.S.Session.state c.args.conn.now in
+    let new = g.S.Session.state c.query.new.conn in
     on_error c.from_residual.result c.in_err-query.field-0.0 (ForCause old new) c.from_residual.ensures.1 (probe_caused old new has is_open (Err c.in_err-query.field-0.0) (c.in_err-query.ensures.fails clean))

@@ -1,5 +1,4 @@
 use Rattle.std.proofs.Common.{◌∙◌, arith, sym, subst, IsTrue}
-use Rattle.sqlite.specs.Held.{state}
 use Rattle.sql_tables.proofs.MakingLemmas.{kept_then}
 use Rattle.sql_tables.specs.Ends.{ForCause}
 use Rattle.sql_tables.proofs.MakingCauses.{caused_on}
@@ -22,15 +21,15 @@ returns-clause-made g c clean is_open empty =
 pub returns-in_err-make-2-clause-kept : goal.returns-in_err-make-2-clause-kept
 returns-in_err-make-2-clause-kept g c clean is_open inside empty =
     let m0 = c.in_ok-make.ensures.made (omega (arith, clean, c.make-2.ensures.later.clean)) is_open _ _ register_made empty in
-    kept_then c.from_residual-in_err-make-2.result (state g.S.Store c.args.conn.now) (state g.S.Store c.make.new.conn) (state g.S.Store c.make-2.new.conn) (m0.committed inside) (c.in_err-make-2.ensures.kept clean)
+    kept_then c.from_residual-in_err-make-2.result (g.S.Session.state c.args.conn.now) (g.S.Session.state c.make.new.conn) (g.S.Session.state c.make-2.new.conn) (m0.committed inside) (c.in_err-make-2.ensures.kept clean)
 
 pub returns-in_err-make-clause-blame : goal.returns-in_err-make-clause-blame
 returns-in_err-make-clause-blame g c clean is_open empty =
-    on_error c.from_residual.result c.in_err-make.field-0.0 (ForCause (state g.S.Store c.args.conn.now) (state g.S.Store c.make.new.conn)) c.from_residual.ensures.1
+    on_error c.from_residual.result c.in_err-make.field-0.0 (ForCause (g.S.Session.state c.args.conn.now) (g.S.Session.state c.make.new.conn)) c.from_residual.ensures.1
     (c.in_err-make.ensures.blame clean is_open _ _ register_made empty)
 
 pub returns-in_err-make-2-clause-blame : goal.returns-in_err-make-2-clause-blame
 returns-in_err-make-2-clause-blame g c clean is_open empty =
     let m0 = c.in_ok-make.ensures.made (omega (arith, clean, c.make-2.ensures.later.clean)) is_open _ _ register_made empty in
-    caused_on c.from_residual-in_err-make-2.result c.in_err-make-2.field-0.0 (state g.S.Store c.args.conn.now) (state g.S.Store c.make.new.conn) (state g.S.Store c.make-2.new.conn) c.from_residual-in_err-make-2.ensures.1 c.make.ensures.later c.make-2.ensures.later
+    caused_on c.from_residual-in_err-make-2.result c.in_err-make-2.field-0.0 (g.S.Session.state c.args.conn.now) (g.S.Session.state c.make.new.conn) (g.S.Session.state c.make-2.new.conn) c.from_residual-in_err-make-2.ensures.1 c.make.ensures.later c.make-2.ensures.later
     (c.in_err-make-2.ensures.blame clean m0.is_open _ _ state_made m0.empty)

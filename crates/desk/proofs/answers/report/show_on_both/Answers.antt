@@ -13,4 +13,4 @@ returns-clause-left g c = λ books keeps.
     c.connection_of.ensures.left told.stage books (subst (KeepsFormed MOST_ENTRIES books) (sym (told.same tt tt)) keeps)
 
 pub returns-clause-clean : goal.returns-clause-clean
-returns-clause-clean g c = clean_on g.S.Store c.args.both c.tell_overview-told.new.register c.connection_of.result c.tell_overview-told.ensures.later c.connection_of.ensures.connection
+returns-clause-clean g c = clean_on g.S.Session.state c.args.both c.tell_overview-told.new.register c.connection_of.result c.tell_overview-told.ensures.later c.connection_of.ensures.connection

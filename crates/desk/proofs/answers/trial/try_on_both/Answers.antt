@@ -1,5 +1,4 @@
 use Rattle.std.proofs.Common.{◌≡◌, refl, sym, subst}
-use Rattle.sqlite.specs.Held.{state}
 use Rattle.sqlite.specs.State.{HasCleanDisk}
 use Rattle.desk_rules.specs.Books.{Books}
 use Rattle.desk_rules.specs.declared.limits.TheConstants.{MOST_ENTRIES}
@@ -27,4 +26,4 @@ pub returns-clause-left : goal.returns-clause-left
 returns-clause-left g c = λ books keeps. c.parts_of-memory.ensures.left (c.requires.desk.stage refl) books keeps
 
 pub returns-clause-clean : goal.returns-clause-clean
-returns-clause-clean g c = λ clean. subst (λ k. HasCleanDisk (state g.S.Store k)) c.parts_of-memory.ensures.connection clean
+returns-clause-clean g c = λ clean. subst (λ k. HasCleanDisk (g.S.Session.state k)) c.parts_of-memory.ensures.connection clean

@@ -1,7 +1,6 @@
 use Rattle.std.proofs.Common.{Bool, Ok, Err, ◌≡◌, ◌∙◌, ap, refl, subst, sym, arith}
 use Rattle.std.proofs.lemmas.Bool.{both_ways}
 use Rattle.sqlite.specs.Effect.{Database}
-use Rattle.sqlite.specs.Held.{state}
 use Rattle.sqlite.specs.Schema.{Schema}
 use Rattle.sqlite.specs.State.{HasCleanDisk}
 use Rattle.sql_tables.specs.Ends.{IsSame}
@@ -17,8 +16,8 @@ use Rattle.desk_file.proofs.audit.auditing.audit_version.Goals as goal
 
 pub returns-clause-whole : goal.returns-clause-whole
 returns-clause-whole g c = λ clean is_open honest sure order.
-    let s0 = state g.S.Store c.args.conn.now in
-    let s1 = state g.S.Store c.has_version.new.conn in
+    let s0 = g.S.Session.state c.args.conn.now in
+    let s1 = g.S.Session.state c.has_version.new.conn in
     let v0 = g.R.Register.view c.args.register.now in
     let v2 = g.R.Register.view c.fill.new.register in
     let desk = c.if-not-has_desk_tables.ensures in
@@ -47,8 +46,8 @@ returns-then-not-branch-clause-exact g c clean is_open honest sure content audit
 
 pub returns-clause-exact : goal.returns-clause-exact
 returns-clause-exact g c = λ clean is_open honest sure content audited.
-    let s0 = state g.S.Store c.args.conn.now in
-    let s1 = state g.S.Store c.has_version.new.conn in
+    let s0 = g.S.Session.state c.args.conn.now in
+    let s1 = g.S.Session.state c.has_version.new.conn in
     let v0 = g.R.Register.view c.args.register.now in
     let schema = audited.schema in
     let e1 = c.in_ok-has_version.ensures in
@@ -59,9 +58,9 @@ returns-clause-exact g c = λ clean is_open honest sure content audited.
 
 pub returns-clause-cause : goal.returns-clause-cause
 returns-clause-cause g c = λ clean is_open honest sure order.
-    let s0 = state g.S.Store c.args.conn.now in
-    let s1 = state g.S.Store c.has_version.new.conn in
-    let s2 = state g.S.Store c.fill.new.conn in
+    let s0 = g.S.Session.state c.args.conn.now in
+    let s1 = g.S.Session.state c.has_version.new.conn in
+    let s2 = g.S.Session.state c.fill.new.conn in
     let desk = c.if-not-has_desk_tables.ensures in
     let e1 = c.in_ok-has_version.ensures in
     let e2 = c.fill.ensures in
@@ -76,7 +75,7 @@ returns-clause-cause g c = λ clean is_open honest sure order.
     cause_on c.fill.result s0 s1 s2 e1.look.later e2.look.later (e2.cause clean same.is_open schema1 honest sure order1 formed1)
 
 pub returns-then-not-has_desk_tables-clause-look : goal.returns-then-not-has_desk_tables-clause-look
-returns-then-not-has_desk_tables-clause-look g c = look_none tt (state g.S.Store c.args.conn.now)
+returns-then-not-has_desk_tables-clause-look g c = look_none tt (g.S.Session.state c.args.conn.now)
 
 pub returns-then-not-has_desk_tables-clause-done : goal.returns-then-not-has_desk_tables-clause-done
 returns-then-not-has_desk_tables-clause-done g c = done_none _ c.requires.stage
@@ -101,21 +100,21 @@ returns-in_err-has_version-clause-other_tables g c = no_answer c.from_residual.r
 
 pub returns-in_err-has_version-clause-look : goal.returns-in_err-has_version-clause-look
 returns-in_err-has_version-clause-look g c =
-    let s0 = state g.S.Store c.args.conn.now in
-    let s1 = state g.S.Store c.has_version.new.conn in
+    let s0 = g.S.Session.state c.args.conn.now in
+    let s1 = g.S.Session.state c.has_version.new.conn in
     look_told c.in_err-has_version.field-0.0 c.from_residual.result c.from_residual.ensures.1 Bool s0 s1 c.in_err-has_version.ensures.look
 
 pub returns-in_err-has_version-clause-kept : goal.returns-in_err-has_version-clause-kept
 returns-in_err-has_version-clause-kept g c clean is_open =
-    let s0 = state g.S.Store c.args.conn.now in
-    let s1 = state g.S.Store c.has_version.new.conn in
+    let s0 = g.S.Session.state c.args.conn.now in
+    let s1 = g.S.Session.state c.has_version.new.conn in
     let schema : s0.now.schema ≡ schema_in c.args.version = c.if-not-has_desk_tables.ensures.exact.0 refl in
     kept_by {X = Bool} (Err c.in_err-has_version.field-0.0) s0 s1 c.in_err-has_version.ensures.look clean is_open schema
 
 pub returns-in_err-has_version-clause-cause : goal.returns-in_err-has_version-clause-cause
 returns-in_err-has_version-clause-cause g c clean is_open honest sure order =
-    let s0 = state g.S.Store c.args.conn.now in
-    let s1 = state g.S.Store c.has_version.new.conn in
+    let s0 = g.S.Session.state c.args.conn.now in
+    let s1 = g.S.Session.state c.has_version.new.conn in
     let schema : s0.now.schema ≡ schema_in c.args.version = c.if-not-has_desk_tables.ensures.exact.0 refl in
     cause_told c.in_err-has_version.field-0.0 c.from_residual.result c.from_residual.ensures.1 s0 s1 (c.in_err-has_version.ensures.blame clean is_open schema)
 
@@ -130,14 +129,14 @@ returns-in_err-has_version-clause-blame g c kept = blame_told c.in_err-has_versi
 
 pub returns-then-not-branch-clause-look : goal.returns-then-not-branch-clause-look
 returns-then-not-branch-clause-look g c =
-    let s0 = state g.S.Store c.args.conn.now in
-    let s1 = state g.S.Store c.has_version.new.conn in
+    let s0 = g.S.Session.state c.args.conn.now in
+    let s1 = g.S.Session.state c.has_version.new.conn in
     look_ok c.in_ok-has_version.field-0 tt s0 s1 c.in_ok-has_version.ensures.look
 
 pub returns-then-not-branch-clause-kept : goal.returns-then-not-branch-clause-kept
 returns-then-not-branch-clause-kept g c clean is_open =
-    let s0 = state g.S.Store c.args.conn.now in
-    let s1 = state g.S.Store c.has_version.new.conn in
+    let s0 = g.S.Session.state c.args.conn.now in
+    let s1 = g.S.Session.state c.has_version.new.conn in
     let schema : s0.now.schema ≡ schema_in c.args.version = c.if-not-has_desk_tables.ensures.exact.0 refl in
     kept_by (Ok c.in_ok-has_version.field-0) s0 s1 c.in_ok-has_version.ensures.look clean is_open schema
 
@@ -152,15 +151,15 @@ returns-then-not-branch-clause-blame g c kept = blame_none tt _ _
 
 pub returns-clause-look : goal.returns-clause-look
 returns-clause-look g c =
-    let s0 = state g.S.Store c.args.conn.now in
-    let s1 = state g.S.Store c.has_version.new.conn in
-    let s2 = state g.S.Store c.fill.new.conn in
+    let s0 = g.S.Session.state c.args.conn.now in
+    let s1 = g.S.Session.state c.has_version.new.conn in
+    let s2 = g.S.Session.state c.fill.new.conn in
     look_then {X = Unit {0}} tt (of_tables c.fill.result) s0 s1 s2 (look_ok c.in_ok-has_version.field-0 tt s0 s1 c.in_ok-has_version.ensures.look) c.fill.ensures.look
 
 pub returns-clause-kept : goal.returns-clause-kept
 returns-clause-kept g c clean is_open =
-    let s0 = state g.S.Store c.args.conn.now in
-    let s1 = state g.S.Store c.has_version.new.conn in
-    let s2 = state g.S.Store c.fill.new.conn in
+    let s0 = g.S.Session.state c.args.conn.now in
+    let s1 = g.S.Session.state c.has_version.new.conn in
+    let s2 = g.S.Session.state c.fill.new.conn in
     let schema : s0.now.schema ≡ schema_in c.args.version = c.if-not-has_desk_tables.ensures.exact.0 refl in
     kept_by (of_tables c.fill.result) s0 s2 (look_then {X = Unit {0}} tt (of_tables c.fill.result) s0 s1 s2 (look_ok c.in_ok-has_version.field-0 tt s0 s1 c.in_ok-has_version.ensures.look) c.fill.ensures.look) clean is_open schema

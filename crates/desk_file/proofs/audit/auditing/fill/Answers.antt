@@ -1,6 +1,5 @@
 use Rattle.std.proofs.Common.{Option, Err, ◌∙◌, ap, refl, subst, sym, arith}
 use Rattle.sqlite.specs.Effect.{Database}
-use Rattle.sqlite.specs.Held.{state}
 use Rattle.sqlite.specs.State.{HasCleanDisk}
 use Rattle.sql_tables.specs.Audits.{of_register}
 use Rattle.sql_tables.specs.Ends.{IsSame}
@@ -18,8 +17,8 @@ use Rattle.desk_file.proofs.audit.auditing.fill.Goals as goal
 
 pub returns-in-None-clause-filled : goal.returns-in-None-clause-filled
 returns-in-None-clause-filled g c = λ clean is_open has honest sure order formed whole.
-    let s0 = state g.S.Store c.args.conn.now in
-    let s1 = state g.S.Store c.read_register.new.conn in
+    let s0 = g.S.Session.state c.args.conn.now in
+    let s1 = g.S.Session.state c.read_register.new.conn in
     let v0 = g.R.Register.view c.args.register.now in
     let v1 = g.R.Register.view c.read_register.new.register in
     let v2 = g.R.Register.view c.first_other.new.register in
@@ -48,8 +47,8 @@ returns-in_err-table-clause-exact g c clean is_open has honest sure content fill
 
 pub returns-in-Some-clause-exact : goal.returns-in-Some-clause-exact
 returns-in-Some-clause-exact g c = λ clean is_open has honest sure content filled.
-    let s0 = state g.S.Store c.args.conn.now in
-    let s1 = state g.S.Store c.read_register.new.conn in
+    let s0 = g.S.Session.state c.args.conn.now in
+    let s1 = g.S.Session.state c.read_register.new.conn in
     let v0 = g.R.Register.view c.args.register.now in
     let v1 = g.R.Register.view c.read_register.new.register in
     let e1 = c.in_ok-read_register.ensures in
@@ -83,14 +82,14 @@ returns-in_err-read_register-clause-not_other g c = no_answer c.from_residual.re
 
 pub returns-in_err-read_register-clause-look : goal.returns-in_err-read_register-clause-look
 returns-in_err-read_register-clause-look g c =
-    let s0 = state g.S.Store c.args.conn.now in
-    let s1 = state g.S.Store c.read_register.new.conn in
+    let s0 = g.S.Session.state c.args.conn.now in
+    let s1 = g.S.Session.state c.read_register.new.conn in
     look_handed Reading c.in_err-read_register.field-0.0 c.from_residual.result c.from_residual.ensures.1 s0 s1 c.in_err-read_register.ensures.look
 
 pub returns-in_err-read_register-clause-cause : goal.returns-in_err-read_register-clause-cause
 returns-in_err-read_register-clause-cause g c clean is_open has honest sure order formed =
-    let s0 = state g.S.Store c.args.conn.now in
-    let s1 = state g.S.Store c.read_register.new.conn in
+    let s0 = g.S.Session.state c.args.conn.now in
+    let s1 = g.S.Session.state c.read_register.new.conn in
     cause_handed Reading c.in_err-read_register.field-0.0 c.from_residual.result c.from_residual.ensures.1 s0 s1 (c.in_err-read_register.ensures.cause clean is_open has)
 
 pub returns-in_err-read_register-clause-done : goal.returns-in_err-read_register-clause-done
@@ -116,16 +115,16 @@ returns-in_err-table-clause-not_other g c = no_answer c.from_residual-in_err-tab
 
 pub returns-in_err-table-clause-look : goal.returns-in_err-table-clause-look
 returns-in_err-table-clause-look g c =
-    let s0 = state g.S.Store c.args.conn.now in
-    let s1 = state g.S.Store c.read_register.new.conn in
-    let s2 = state g.S.Store c.first_other.new.conn in
+    let s0 = g.S.Session.state c.args.conn.now in
+    let s1 = g.S.Session.state c.read_register.new.conn in
+    let s2 = g.S.Session.state c.first_other.new.conn in
     look_fell (Option Table) c.in_err-table.field-0.0 c.from_residual-in_err-table.result c.from_residual-in_err-table.ensures.1 s0 s1 s2 c.in_ok-read_register.ensures.look c.in_err-table.ensures.look
 
 pub returns-in_err-table-clause-cause : goal.returns-in_err-table-clause-cause
 returns-in_err-table-clause-cause g c clean is_open has honest sure order formed =
-    let s0 = state g.S.Store c.args.conn.now in
-    let s1 = state g.S.Store c.read_register.new.conn in
-    let s2 = state g.S.Store c.first_other.new.conn in
+    let s0 = g.S.Session.state c.args.conn.now in
+    let s1 = g.S.Session.state c.read_register.new.conn in
+    let s2 = g.S.Session.state c.first_other.new.conn in
     let v1 = g.R.Register.view c.read_register.new.register in
     let later = c.first_other.ensures.look.later in
     let clean1 : HasCleanDisk s1 = (let less = later.clean in omega (arith, less, clean)) in
@@ -155,9 +154,9 @@ returns-in_err-table-clause-blame g c kept =
 
 pub returns-in-Some-clause-look : goal.returns-in-Some-clause-look
 returns-in-Some-clause-look g c =
-    let s0 = state g.S.Store c.args.conn.now in
-    let s1 = state g.S.Store c.read_register.new.conn in
-    let s2 = state g.S.Store c.first_other.new.conn in
+    let s0 = g.S.Session.state c.args.conn.now in
+    let s1 = g.S.Session.state c.read_register.new.conn in
+    let s2 = g.S.Session.state c.first_other.new.conn in
     look_more tt s0 s1 s2 c.in_ok-read_register.ensures.look c.in_ok-table.ensures.look
 
 pub returns-in-Some-clause-done : goal.returns-in-Some-clause-done
@@ -179,9 +178,9 @@ returns-in-Some-clause-blame g c kept = blame_none tt _ _
 
 pub returns-in-None-clause-look : goal.returns-in-None-clause-look
 returns-in-None-clause-look g c =
-    let s0 = state g.S.Store c.args.conn.now in
-    let s1 = state g.S.Store c.read_register.new.conn in
-    let s2 = state g.S.Store c.first_other.new.conn in
+    let s0 = g.S.Session.state c.args.conn.now in
+    let s1 = g.S.Session.state c.read_register.new.conn in
+    let s2 = g.S.Session.state c.first_other.new.conn in
     look_more tt s0 s1 s2 c.in_ok-read_register.ensures.look c.in_ok-table.ensures.look
 
 pub returns-in-None-clause-done : goal.returns-in-None-clause-done

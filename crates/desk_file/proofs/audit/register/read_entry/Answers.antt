@@ -1,6 +1,5 @@
 use Rattle.std.proofs.Common.{◌≡◌, ◌∷◌, ◌++◌, [], refl, subst, sym}
 use Rattle.std.proofs.lemmas.Bool.{both_ways}
-use Rattle.sqlite.specs.Held.{state}
 use Rattle.sql_tables.specs.Versions.{register_tree}
 use Rattle.sql_entries.specs.Found.{IsFormed, IsFound}
 use Rattle.sql_entries.specs.declared.compared.Found.{Found}
@@ -79,14 +78,14 @@ returns-in_err-found_at-clause-same g c honest sure = no_answer c.from_residual.
 
 pub returns-in_err-found_at-clause-look : goal.returns-in_err-found_at-clause-look
 returns-in_err-found_at-clause-look g c =
-    let s0 = state g.S.Store c.args.conn.now in
-    let s1 = state g.S.Store c.found_at.new.conn in
+    let s0 = g.S.Session.state c.args.conn.now in
+    let s1 = g.S.Session.state c.found_at.new.conn in
     look_told c.in_err-found_at.field-0.0 c.from_residual.result c.from_residual.ensures.1 Found s0 s1 c.in_err-found_at.ensures.look
 
 pub returns-in_err-found_at-clause-cause : goal.returns-in_err-found_at-clause-cause
 returns-in_err-found_at-clause-cause g c clean is_open has =
-    let s0 = state g.S.Store c.args.conn.now in
-    let s1 = state g.S.Store c.found_at.new.conn in
+    let s0 = g.S.Session.state c.args.conn.now in
+    let s1 = g.S.Session.state c.found_at.new.conn in
     cause_told c.in_err-found_at.field-0.0 c.from_residual.result c.from_residual.ensures.1 s0 s1 (c.in_err-found_at.ensures.blame clean is_open has)
 
 pub returns-in_err-found_at-clause-done : goal.returns-in_err-found_at-clause-done
@@ -100,8 +99,8 @@ returns-in_err-found_at-clause-blame g c kept = blame_told c.in_err-found_at.fie
 
 pub returns-in-Nothing-clause-look : goal.returns-in-Nothing-clause-look
 returns-in-Nothing-clause-look g c =
-    let s0 = state g.S.Store c.args.conn.now in
-    let s1 = state g.S.Store c.found_at.new.conn in
+    let s0 = g.S.Session.state c.args.conn.now in
+    let s1 = g.S.Session.state c.found_at.new.conn in
     look_ok c.in_ok-found_at.field-0 tt s0 s1 c.in_ok-found_at.ensures.look
 
 pub returns-in-Nothing-clause-done : goal.returns-in-Nothing-clause-done
@@ -115,8 +114,8 @@ returns-in-Nothing-clause-blame g c kept = blame_none tt _ _
 
 pub returns-in-Another-clause-look : goal.returns-in-Another-clause-look
 returns-in-Another-clause-look g c =
-    let s0 = state g.S.Store c.args.conn.now in
-    let s1 = state g.S.Store c.found_at.new.conn in
+    let s0 = g.S.Session.state c.args.conn.now in
+    let s1 = g.S.Session.state c.found_at.new.conn in
     look_ok c.in_ok-found_at.field-0 tt s0 s1 c.in_ok-found_at.ensures.look
 
 pub returns-in-Another-clause-done : goal.returns-in-Another-clause-done
@@ -139,14 +138,14 @@ returns-in_err-take-in-Entry-clause-same g c honest sure = no_answer c.from_resi
 
 pub returns-in_err-take-in-Entry-clause-look : goal.returns-in_err-take-in-Entry-clause-look
 returns-in_err-take-in-Entry-clause-look g c =
-    let s0 = state g.S.Store c.args.conn.now in
-    let s1 = state g.S.Store c.found_at.new.conn in
+    let s0 = g.S.Session.state c.args.conn.now in
+    let s1 = g.S.Session.state c.found_at.new.conn in
     look_before c.in_err-take-in-Entry.field-0.0 c.from_residual-in_err-take-in-Entry.result c.from_residual-in_err-take-in-Entry.ensures.1 s0 s1 (look_ok c.in_ok-found_at.field-0 tt s0 s1 c.in_ok-found_at.ensures.look)
 
 pub returns-in_err-take-in-Entry-clause-cause : goal.returns-in_err-take-in-Entry-clause-cause
 returns-in_err-take-in-Entry-clause-cause g c clean is_open has =
-    let s0 = state g.S.Store c.args.conn.now in
-    let s1 = state g.S.Store c.found_at.new.conn in
+    let s0 = g.S.Session.state c.args.conn.now in
+    let s1 = g.S.Session.state c.found_at.new.conn in
     no_cause c.in_err-take-in-Entry.field-0.0 c.from_residual-in_err-take-in-Entry.result c.from_residual-in_err-take-in-Entry.ensures.1 s0 s1
 
 pub returns-in_err-take-in-Entry-clause-done : goal.returns-in_err-take-in-Entry-clause-done
@@ -157,7 +156,7 @@ returns-in_err-take-in-Entry-clause-blame g c kept = blame_taken c.in_err-take-i
 
 pub returns-then-branch-clause-takes : goal.returns-then-branch-clause-takes
 returns-then-branch-clause-takes g c clean is_open has honest sure formed held taken =
-    let s0 = state g.S.Store c.args.conn.now in
+    let s0 = g.S.Session.state c.args.conn.now in
     let v0 = g.R.Register.view c.args.register.now in
     let found = c.in_ok-found_at.ensures.found clean is_open has formed in
     record {
@@ -168,8 +167,8 @@ returns-then-branch-clause-takes g c clean is_open has honest sure formed held t
 
 pub returns-then-branch-clause-look : goal.returns-then-branch-clause-look
 returns-then-branch-clause-look g c =
-    let s0 = state g.S.Store c.args.conn.now in
-    let s1 = state g.S.Store c.found_at.new.conn in
+    let s0 = g.S.Session.state c.args.conn.now in
+    let s1 = g.S.Session.state c.found_at.new.conn in
     look_ok c.in_ok-found_at.field-0 tt s0 s1 c.in_ok-found_at.ensures.look
 
 pub returns-then-branch-clause-blame : goal.returns-then-branch-clause-blame

@@ -1,7 +1,6 @@
 use Rattle.std.proofs.Common.{◌≡◌, ◌↔◌, length, ◌≤◌, ◌+◌, ◌∙◌, ap, subst, sym, arith}
 use Rattle.std.specs.List.{AllByRecursion}
 use Rattle.sqlite.specs.Effect.{Database}
-use Rattle.sqlite.specs.Held.{state}
 use Rattle.sqlite.specs.State.{HasCleanDisk}
 use Rattle.sql_tables.specs.Ends.{IsSame}
 use Rattle.sql_tables.specs.Schema.{register_table}
@@ -25,9 +24,9 @@ use Rattle.desk_file.proofs.audit.register.read_register.Goals as goal
 
 pub loop-before-preserved : goal.loop-before-preserved
 loop-before-preserved g c =
-    let s0 = state g.S.Store c.args.conn.now in
-    let s1 = state g.S.Store c.loop-before.conn in
-    let s2 = state g.S.Store c.read_entry.new.conn in
+    let s0 = g.S.Session.state c.args.conn.now in
+    let s1 = g.S.Session.state c.loop-before.conn in
+    let s2 = g.S.Session.state c.read_entry.new.conn in
     let v0 = g.R.Register.view c.args.register.now in
     let v1 = g.R.Register.view c.loop-before.register in
     let v2 = g.R.Register.view c.read_entry.new.register in
@@ -66,9 +65,9 @@ loop-before-preserved g c =
 
 pub returns-in-Nothing-clause-entries : goal.returns-in-Nothing-clause-entries
 returns-in-Nothing-clause-entries g c = λ clean is_open has honest sure order formed whole.
-    let s0 = state g.S.Store c.args.conn.now in
-    let s1 = state g.S.Store c.loop-before.conn in
-    let s2 = state g.S.Store c.read_entry.new.conn in
+    let s0 = g.S.Session.state c.args.conn.now in
+    let s1 = g.S.Session.state c.loop-before.conn in
+    let s2 = g.S.Session.state c.read_entry.new.conn in
     let v0 = g.R.Register.view c.args.register.now in
     let v1 = g.R.Register.view c.loop-before.register in
     let v2 = g.R.Register.view c.read_entry.new.register in
@@ -91,8 +90,8 @@ returns-in-Nothing-clause-entries g c = λ clean is_open has honest sure order f
 
 pub returns-clause-entries : goal.returns-clause-entries
 returns-clause-entries g c = λ clean is_open has honest sure order formed whole.
-    let s0 = state g.S.Store c.args.conn.now in
-    let s1 = state g.S.Store c.loop-before.conn in
+    let s0 = g.S.Session.state c.args.conn.now in
+    let s1 = g.S.Session.state c.loop-before.conn in
     let v0 = g.R.Register.view c.args.register.now in
     let v1 = g.R.Register.view c.loop-before.register in
     let count = c.loop-before.before in
@@ -111,8 +110,8 @@ returns-in_err-read_entry-clause-exact g c clean is_open has honest sure content
 
 pub returns-in-Another-clause-exact : goal.returns-in-Another-clause-exact
 returns-in-Another-clause-exact g c = λ clean is_open has honest sure content read.
-    let s0 = state g.S.Store c.args.conn.now in
-    let s1 = state g.S.Store c.loop-before.conn in
+    let s0 = g.S.Session.state c.args.conn.now in
+    let s1 = g.S.Session.state c.loop-before.conn in
     let v0 = g.R.Register.view c.args.register.now in
     let v1 = g.R.Register.view c.loop-before.register in
     let v2 = g.R.Register.view c.read_entry.new.register in
@@ -132,9 +131,9 @@ returns-in_err-end-in-Nothing-clause-exact g c clean is_open has honest sure con
 
 pub returns-in-Nothing-clause-exact : goal.returns-in-Nothing-clause-exact
 returns-in-Nothing-clause-exact g c = λ clean is_open has honest sure content read.
-    let s0 = state g.S.Store c.args.conn.now in
-    let s1 = state g.S.Store c.loop-before.conn in
-    let s2 = state g.S.Store c.read_entry.new.conn in
+    let s0 = g.S.Session.state c.args.conn.now in
+    let s1 = g.S.Session.state c.loop-before.conn in
+    let s2 = g.S.Session.state c.read_entry.new.conn in
     let v0 = g.R.Register.view c.args.register.now in
     let v1 = g.R.Register.view c.loop-before.register in
     let v2 = g.R.Register.view c.read_entry.new.register in
@@ -163,8 +162,8 @@ returns-in_err-end-clause-exact g c clean is_open has honest sure content read =
 
 pub returns-clause-exact : goal.returns-clause-exact
 returns-clause-exact g c = λ clean is_open has honest sure content read.
-    let s0 = state g.S.Store c.args.conn.now in
-    let s1 = state g.S.Store c.loop-before.conn in
+    let s0 = g.S.Session.state c.args.conn.now in
+    let s1 = g.S.Session.state c.loop-before.conn in
     let v1 = g.R.Register.view c.loop-before.register in
     let count = c.loop-before.before in
     let i = c.loop-before.invariant in
@@ -194,9 +193,9 @@ returns-in-Nothing-clause-holds g c = λ honest sure whole.
 
 pub returns-in_err-read_entry-clause-cause : goal.returns-in_err-read_entry-clause-cause
 returns-in_err-read_entry-clause-cause g c clean is_open has =
-    let s0 = state g.S.Store c.args.conn.now in
-    let s1 = state g.S.Store c.loop-before.conn in
-    let s2 = state g.S.Store c.read_entry.new.conn in
+    let s0 = g.S.Session.state c.args.conn.now in
+    let s1 = g.S.Session.state c.loop-before.conn in
+    let s2 = g.S.Session.state c.read_entry.new.conn in
     let i = c.loop-before.invariant in
     let later = c.read_entry.ensures.look.later in
     let clean1 : HasCleanDisk s1 = (let less = later.clean in omega (arith, less, clean)) in
@@ -206,7 +205,7 @@ returns-in_err-read_entry-clause-cause g c clean is_open has =
 
 pub loop-before-init : goal.loop-before-init
 loop-before-init g c =
-    let s0 = state g.S.Store c.args.conn.now in
+    let s0 = g.S.Session.state c.args.conn.now in
     let v0 = g.R.Register.view c.args.register.now in
     record {
       look = look_none tt s0;
@@ -225,9 +224,9 @@ returns-in_err-read_entry-clause-holds g c honest sure = no_answer c.from_residu
 
 pub returns-in_err-read_entry-clause-look : goal.returns-in_err-read_entry-clause-look
 returns-in_err-read_entry-clause-look g c =
-    let s0 = state g.S.Store c.args.conn.now in
-    let s1 = state g.S.Store c.loop-before.conn in
-    let s2 = state g.S.Store c.read_entry.new.conn in
+    let s0 = g.S.Session.state c.args.conn.now in
+    let s1 = g.S.Session.state c.loop-before.conn in
+    let s2 = g.S.Session.state c.read_entry.new.conn in
     look_fell Step c.in_err-read_entry.field-0.0 c.from_residual.result c.from_residual.ensures.1 s0 s1 s2 c.loop-before.invariant.look c.in_err-read_entry.ensures.look
 
 pub returns-in_err-read_entry-clause-done : goal.returns-in_err-read_entry-clause-done
@@ -250,9 +249,9 @@ returns-in_err-read_entry-clause-blame g c kept =
 
 pub returns-in-Another-clause-look : goal.returns-in-Another-clause-look
 returns-in-Another-clause-look g c =
-    let s0 = state g.S.Store c.args.conn.now in
-    let s1 = state g.S.Store c.loop-before.conn in
-    let s2 = state g.S.Store c.read_entry.new.conn in
+    let s0 = g.S.Session.state c.args.conn.now in
+    let s1 = g.S.Session.state c.loop-before.conn in
+    let s2 = g.S.Session.state c.read_entry.new.conn in
     look_more tt s0 s1 s2 c.loop-before.invariant.look c.in_ok-read_entry.ensures.look
 
 pub returns-in-Another-clause-done : goal.returns-in-Another-clause-done
@@ -284,16 +283,16 @@ returns-in_err-end-in-Nothing-clause-holds g c honest sure = no_answer c.from_re
 
 pub returns-in_err-end-in-Nothing-clause-look : goal.returns-in_err-end-in-Nothing-clause-look
 returns-in_err-end-in-Nothing-clause-look g c =
-    let s0 = state g.S.Store c.args.conn.now in
-    let s1 = state g.S.Store c.loop-before.conn in
-    let s2 = state g.S.Store c.read_entry.new.conn in
+    let s0 = g.S.Session.state c.args.conn.now in
+    let s1 = g.S.Session.state c.loop-before.conn in
+    let s2 = g.S.Session.state c.read_entry.new.conn in
     look_told_then c.in_err-end-in-Nothing.field-0.0 c.from_residual-in_err-end-in-Nothing.result c.from_residual-in_err-end-in-Nothing.ensures.1 Reading s0 s2 _ (look_more tt s0 s1 s2 c.loop-before.invariant.look c.in_ok-read_entry.ensures.look) (c.in_err-end-in-Nothing.ensures.look c.args.version)
 
 pub returns-in_err-end-in-Nothing-clause-cause : goal.returns-in_err-end-in-Nothing-clause-cause
 returns-in_err-end-in-Nothing-clause-cause g c clean is_open has =
-    let s0 = state g.S.Store c.args.conn.now in
-    let s1 = state g.S.Store c.loop-before.conn in
-    let s2 = state g.S.Store c.read_entry.new.conn in
+    let s0 = g.S.Session.state c.args.conn.now in
+    let s1 = g.S.Session.state c.loop-before.conn in
+    let s2 = g.S.Session.state c.read_entry.new.conn in
     cause_told_then c.in_err-end-in-Nothing.field-0.0 c.from_residual-in_err-end-in-Nothing.result c.from_residual-in_err-end-in-Nothing.ensures.1 Reading s0 s2 _ (look_more tt s0 s1 s2 c.loop-before.invariant.look c.in_ok-read_entry.ensures.look) (c.in_err-end-in-Nothing.ensures.look c.args.version) (c.in_err-end-in-Nothing.ensures.cause c.args.version) clean is_open has
 
 pub returns-in_err-end-in-Nothing-clause-done : goal.returns-in_err-end-in-Nothing-clause-done
@@ -313,9 +312,9 @@ returns-in_err-end-in-Nothing-clause-blame g c kept = blame_told c.in_err-end-in
 
 pub returns-in-Nothing-clause-look : goal.returns-in-Nothing-clause-look
 returns-in-Nothing-clause-look g c =
-    let s0 = state g.S.Store c.args.conn.now in
-    let s1 = state g.S.Store c.loop-before.conn in
-    let s2 = state g.S.Store c.read_entry.new.conn in
+    let s0 = g.S.Session.state c.args.conn.now in
+    let s1 = g.S.Session.state c.loop-before.conn in
+    let s2 = g.S.Session.state c.read_entry.new.conn in
     look_more c.in_ok-end-in-Nothing.end s0 s2 _ (look_more tt s0 s1 s2 c.loop-before.invariant.look c.in_ok-read_entry.ensures.look) (c.in_ok-end-in-Nothing.ensures.look c.args.version)
 
 pub returns-in-Nothing-clause-done : goal.returns-in-Nothing-clause-done
@@ -347,14 +346,14 @@ returns-in_err-end-clause-holds g c honest sure = no_answer c.from_residual-in_e
 
 pub returns-in_err-end-clause-look : goal.returns-in_err-end-clause-look
 returns-in_err-end-clause-look g c =
-    let s0 = state g.S.Store c.args.conn.now in
-    let s1 = state g.S.Store c.loop-before.conn in
+    let s0 = g.S.Session.state c.args.conn.now in
+    let s1 = g.S.Session.state c.loop-before.conn in
     look_told_then c.in_err-end.field-0.0 c.from_residual-in_err-end.result c.from_residual-in_err-end.ensures.1 Reading s0 s1 _ c.loop-before.invariant.look (c.in_err-end.ensures.look c.args.version)
 
 pub returns-in_err-end-clause-cause : goal.returns-in_err-end-clause-cause
 returns-in_err-end-clause-cause g c clean is_open has =
-    let s0 = state g.S.Store c.args.conn.now in
-    let s1 = state g.S.Store c.loop-before.conn in
+    let s0 = g.S.Session.state c.args.conn.now in
+    let s1 = g.S.Session.state c.loop-before.conn in
     cause_told_then c.in_err-end.field-0.0 c.from_residual-in_err-end.result c.from_residual-in_err-end.ensures.1 Reading s0 s1 _ c.loop-before.invariant.look (c.in_err-end.ensures.look c.args.version) (c.in_err-end.ensures.cause c.args.version) clean is_open has
 
 pub returns-in_err-end-clause-done : goal.returns-in_err-end-clause-done
@@ -365,8 +364,8 @@ returns-in_err-end-clause-blame g c kept = blame_told c.in_err-end.field-0.0 c.f
 
 pub returns-clause-look : goal.returns-clause-look
 returns-clause-look g c =
-    let s0 = state g.S.Store c.args.conn.now in
-    let s1 = state g.S.Store c.loop-before.conn in
+    let s0 = g.S.Session.state c.args.conn.now in
+    let s1 = g.S.Session.state c.loop-before.conn in
     look_more c.in_ok-end.end s0 s1 _ c.loop-before.invariant.look (c.in_ok-end.ensures.look c.args.version)
 
 pub returns-clause-blame : goal.returns-clause-blame

@@ -1,5 +1,4 @@
 use Rattle.std.proofs.Common.{◌∙◌, subst}
-use Rattle.sqlite.specs.Held.{state}
 use Rattle.sqlite.specs.Schema.{Schema}
 use Rattle.sql_tables.specs.Order.{AreInOrder}
 use Rattle.desk_file.proofs.RegisterTables.{formed_rest, no_rest, other_with, rest_schema}
@@ -11,7 +10,7 @@ returns-in-First-clause-says g c clean is_open has honest sure order formed held
 pub returns-in_default-clause-says : goal.returns-in_default-clause-says
 returns-in_default-clause-says g c clean is_open has honest sure order formed held =
     let not = c.in_default.not-First in
-    let trees = (state g.S.Store c.args.conn.now).now.trees in
+    let trees = (g.S.Session.state c.args.conn.now).now.trees in
     let same = rest_schema c.args.version not in
     other_with c.args.version _ _ not c.first_unlike.result
     (c.first_unlike.ensures.says clean is_open (has ∙ same) honest sure (subst (λ (s : Schema). AreInOrder s trees) same order) (formed_rest c.args.version trees not formed) held)
@@ -19,6 +18,6 @@ returns-in_default-clause-says g c clean is_open has honest sure order formed he
 pub returns-in_default-clause-cause : goal.returns-in_default-clause-cause
 returns-in_default-clause-cause g c clean is_open has honest sure order formed =
     let not = c.in_default.not-First in
-    let trees = (state g.S.Store c.args.conn.now).now.trees in
+    let trees = (g.S.Session.state c.args.conn.now).now.trees in
     let same = rest_schema c.args.version not in
     c.first_unlike.ensures.cause clean is_open (has ∙ same) honest sure (subst (λ (s : Schema). AreInOrder s trees) same order) (formed_rest c.args.version trees not formed)

@@ -1,7 +1,6 @@
 use Rattle.std.proofs.Common.{◌∙◌, ap, subst, sym, Bool, IsTrue, arith}
 use Rattle.std.proofs.lemmas.Bool.{both_ways}
 use Rattle.sqlite.specs.Effect.{Database}
-use Rattle.sqlite.specs.Held.{state}
 use Rattle.sqlite.specs.State.{HasCleanDisk}
 use Rattle.desk_rules.specs.Content.{Content}
 use Rattle.sql_rows.specs.Messages.{AreSent}
@@ -22,10 +21,10 @@ use Rattle.desk_file.proofs.audit.rest.first_unlike.Goals as goal
 
 pub returns-clause-says : goal.returns-clause-says
 returns-clause-says g c = λ clean3 is_open has honest3 sure order formed held none.
-    let s0 = state g.S.Store c.args.conn.now in
-    let s1 = state g.S.Store c.has_standings.new.conn in
-    let s2 = state g.S.Store c.has_sent.new.conn in
-    let s3 = state g.S.Store c.has_amounts.new.conn in
+    let s0 = g.S.Session.state c.args.conn.now in
+    let s1 = g.S.Session.state c.has_standings.new.conn in
+    let s2 = g.S.Session.state c.has_sent.new.conn in
+    let s3 = g.S.Session.state c.has_amounts.new.conn in
     let v0 = g.R.Register.view c.args.register.now in
     let v1 = g.R.Register.view c.has_standings.new.register in
     let v2 = g.R.Register.view c.has_sent.new.register in
@@ -58,15 +57,15 @@ returns-then-not-branch-2-clause-exact g c = λ clean is_open has honest sure he
     let e1 = c.in_ok-has_standings.ensures in
     let e2 = c.in_ok-has_sent.ensures in
     absurd (both_ways c.in_ok-has_sent.field-0 c.if-not-branch-2.true
-    (found_so (state g.S.Store c.args.conn.now) (state g.S.Store c.has_standings.new.conn) (state g.S.Store c.has_sent.new.conn)
+    (found_so (g.S.Session.state c.args.conn.now) (g.S.Session.state c.has_standings.new.conn) (g.S.Session.state c.has_sent.new.conn)
     (g.R.Register.view c.args.register.now) (g.R.Register.view c.has_standings.new.register) (g.R.Register.view c.has_sent.new.register)
     e1.look e1.read e2.look.later e2.read.later (λ (d : Database) (x : Content). AreSent d x.sent) e2.exact clean is_open has honest sure rest.sent))
 
 pub returns-then-not-branch-3-clause-exact : goal.returns-then-not-branch-3-clause-exact
 returns-then-not-branch-3-clause-exact g c = λ clean is_open has honest sure held formed rest.
-    let s0 = state g.S.Store c.args.conn.now in
-    let s1 = state g.S.Store c.has_standings.new.conn in
-    let s2 = state g.S.Store c.has_sent.new.conn in
+    let s0 = g.S.Session.state c.args.conn.now in
+    let s1 = g.S.Session.state c.has_standings.new.conn in
+    let s2 = g.S.Session.state c.has_sent.new.conn in
     let v0 = g.R.Register.view c.args.register.now in
     let v1 = g.R.Register.view c.has_standings.new.register in
     let v2 = g.R.Register.view c.has_sent.new.register in
@@ -76,15 +75,15 @@ returns-then-not-branch-3-clause-exact g c = λ clean is_open has honest sure he
     let l2 : HasLooked s0 s2 = look_more tt s0 s1 s2 e1.look e2.look in
     let r2 : HasRead v0 v2 = read_more tt v0 v1 v2 e1.read e2.read in
     absurd (both_ways c.in_ok-has_amounts.field-0 c.if-not-branch-3.true
-    (found_so s0 s2 (state g.S.Store c.has_amounts.new.conn) v0 v2 (g.R.Register.view c.has_amounts.new.register) l2 r2 e3.look.later e3.read.later
+    (found_so s0 s2 (g.S.Session.state c.has_amounts.new.conn) v0 v2 (g.R.Register.view c.has_amounts.new.register) l2 r2 e3.look.later e3.read.later
     (λ (d : Database) (x : Content). HasReadable x × HasAmounts d x)
     (λ clean is_open has honest sure both. e3.exact clean is_open has honest sure both.0 both.1) clean is_open has honest sure (readable v0.room v0.content held formed, rest.amounts)))
 
 pub returns-in_err-has_sent-clause-cause : goal.returns-in_err-has_sent-clause-cause
 returns-in_err-has_sent-clause-cause g c = λ clean is_open has honest sure order formed.
-    let s0 = state g.S.Store c.args.conn.now in
-    let s1 = state g.S.Store c.has_standings.new.conn in
-    let s2 = state g.S.Store c.has_sent.new.conn in
+    let s0 = g.S.Session.state c.args.conn.now in
+    let s1 = g.S.Session.state c.has_standings.new.conn in
+    let s2 = g.S.Session.state c.has_sent.new.conn in
     let e1 = c.in_ok-has_standings.ensures in
     let later = c.has_sent.ensures.look.later in
     let clean1 : HasCleanDisk s1 = (let less = later.clean in omega (arith, less, clean)) in
@@ -94,10 +93,10 @@ returns-in_err-has_sent-clause-cause g c = λ clean is_open has honest sure orde
 
 pub returns-in_err-has_amounts-clause-cause : goal.returns-in_err-has_amounts-clause-cause
 returns-in_err-has_amounts-clause-cause g c = λ clean3 is_open has honest3 sure order formed.
-    let s0 = state g.S.Store c.args.conn.now in
-    let s1 = state g.S.Store c.has_standings.new.conn in
-    let s2 = state g.S.Store c.has_sent.new.conn in
-    let s3 = state g.S.Store c.has_amounts.new.conn in
+    let s0 = g.S.Session.state c.args.conn.now in
+    let s1 = g.S.Session.state c.has_standings.new.conn in
+    let s2 = g.S.Session.state c.has_sent.new.conn in
+    let s3 = g.S.Session.state c.has_amounts.new.conn in
     let v0 = g.R.Register.view c.args.register.now in
     let v1 = g.R.Register.view c.has_standings.new.register in
     let v2 = g.R.Register.view c.has_sent.new.register in
@@ -122,8 +121,8 @@ returns-in_err-has_standings-clause-exact g c clean is_open has honest sure held
 
 pub returns-in_err-has_standings-clause-look : goal.returns-in_err-has_standings-clause-look
 returns-in_err-has_standings-clause-look g c =
-    let s0 = state g.S.Store c.args.conn.now in
-    let s1 = state g.S.Store c.has_standings.new.conn in
+    let s0 = g.S.Session.state c.args.conn.now in
+    let s1 = g.S.Session.state c.has_standings.new.conn in
     look_handed Bool c.in_err-has_standings.field-0.0 c.from_residual.result c.from_residual.ensures.1 s0 s1 c.in_err-has_standings.ensures.look
 
 pub returns-in_err-has_standings-clause-read : goal.returns-in_err-has_standings-clause-read
@@ -140,9 +139,9 @@ returns-in_err-has_sent-clause-exact g c clean is_open has honest sure held form
 
 pub returns-in_err-has_sent-clause-look : goal.returns-in_err-has_sent-clause-look
 returns-in_err-has_sent-clause-look g c =
-    let s0 = state g.S.Store c.args.conn.now in
-    let s1 = state g.S.Store c.has_standings.new.conn in
-    let s2 = state g.S.Store c.has_sent.new.conn in
+    let s0 = g.S.Session.state c.args.conn.now in
+    let s1 = g.S.Session.state c.has_standings.new.conn in
+    let s2 = g.S.Session.state c.has_sent.new.conn in
     look_fell Bool c.in_err-has_sent.field-0.0 c.from_residual-in_err-has_sent.result c.from_residual-in_err-has_sent.ensures.1 s0 s1 s2 c.in_ok-has_standings.ensures.look c.in_err-has_sent.ensures.look
 
 pub returns-in_err-has_sent-clause-read : goal.returns-in_err-has_sent-clause-read
@@ -160,10 +159,10 @@ returns-in_err-has_amounts-clause-exact g c clean is_open has honest sure held f
 
 pub returns-in_err-has_amounts-clause-look : goal.returns-in_err-has_amounts-clause-look
 returns-in_err-has_amounts-clause-look g c =
-    let s0 = state g.S.Store c.args.conn.now in
-    let s1 = state g.S.Store c.has_standings.new.conn in
-    let s2 = state g.S.Store c.has_sent.new.conn in
-    let s3 = state g.S.Store c.has_amounts.new.conn in
+    let s0 = g.S.Session.state c.args.conn.now in
+    let s1 = g.S.Session.state c.has_standings.new.conn in
+    let s2 = g.S.Session.state c.has_sent.new.conn in
+    let s3 = g.S.Session.state c.has_amounts.new.conn in
     look_fell Bool c.in_err-has_amounts.field-0.0 c.from_residual-in_err-has_amounts.result c.from_residual-in_err-has_amounts.ensures.1 s0 s2 s3 (look_more tt s0 s1 s2 c.in_ok-has_standings.ensures.look c.in_ok-has_sent.ensures.look) c.in_err-has_amounts.ensures.look
 
 pub returns-in_err-has_amounts-clause-read : goal.returns-in_err-has_amounts-clause-read
@@ -176,9 +175,9 @@ returns-in_err-has_amounts-clause-read g c =
 
 pub returns-then-not-branch-2-clause-look : goal.returns-then-not-branch-2-clause-look
 returns-then-not-branch-2-clause-look g c =
-    let s0 = state g.S.Store c.args.conn.now in
-    let s1 = state g.S.Store c.has_standings.new.conn in
-    let s2 = state g.S.Store c.has_sent.new.conn in
+    let s0 = g.S.Session.state c.args.conn.now in
+    let s1 = g.S.Session.state c.has_standings.new.conn in
+    let s2 = g.S.Session.state c.has_sent.new.conn in
     look_more tt s0 s1 s2 c.in_ok-has_standings.ensures.look c.in_ok-has_sent.ensures.look
 
 pub returns-then-not-branch-2-clause-read : goal.returns-then-not-branch-2-clause-read
@@ -190,10 +189,10 @@ returns-then-not-branch-2-clause-read g c =
 
 pub returns-then-not-branch-3-clause-look : goal.returns-then-not-branch-3-clause-look
 returns-then-not-branch-3-clause-look g c =
-    let s0 = state g.S.Store c.args.conn.now in
-    let s1 = state g.S.Store c.has_standings.new.conn in
-    let s2 = state g.S.Store c.has_sent.new.conn in
-    let s3 = state g.S.Store c.has_amounts.new.conn in
+    let s0 = g.S.Session.state c.args.conn.now in
+    let s1 = g.S.Session.state c.has_standings.new.conn in
+    let s2 = g.S.Session.state c.has_sent.new.conn in
+    let s3 = g.S.Session.state c.has_amounts.new.conn in
     look_more tt s0 s2 s3 (look_more tt s0 s1 s2 c.in_ok-has_standings.ensures.look c.in_ok-has_sent.ensures.look) c.in_ok-has_amounts.ensures.look
 
 pub returns-then-not-branch-3-clause-read : goal.returns-then-not-branch-3-clause-read
@@ -206,10 +205,10 @@ returns-then-not-branch-3-clause-read g c =
 
 pub returns-clause-look : goal.returns-clause-look
 returns-clause-look g c =
-    let s0 = state g.S.Store c.args.conn.now in
-    let s1 = state g.S.Store c.has_standings.new.conn in
-    let s2 = state g.S.Store c.has_sent.new.conn in
-    let s3 = state g.S.Store c.has_amounts.new.conn in
+    let s0 = g.S.Session.state c.args.conn.now in
+    let s1 = g.S.Session.state c.has_standings.new.conn in
+    let s2 = g.S.Session.state c.has_sent.new.conn in
+    let s3 = g.S.Session.state c.has_amounts.new.conn in
     look_more tt s0 s2 s3 (look_more tt s0 s1 s2 c.in_ok-has_standings.ensures.look c.in_ok-has_sent.ensures.look) c.in_ok-has_amounts.ensures.look
 
 pub returns-clause-read : goal.returns-clause-read

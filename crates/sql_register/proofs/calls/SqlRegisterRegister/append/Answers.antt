@@ -1,5 +1,4 @@
 use Rattle.std.proofs.Common.{◌≡◌, OnOk, ap, ◌∙◌, subst, sym, IsTrue, arith}
-use Rattle.sqlite.specs.Held.{state}
 use Rattle.sqlite.specs.State.{HasCleanDisk}
 use Rattle.desk_register.specs.Changes.{CanAppend, appended}
 use Rattle.desk_register.specs.View.{IsChange}
@@ -12,29 +11,29 @@ use Rattle.sql_register.proofs.calls.SqlRegisterRegister.append.Goals as goal
 
 pub invariant_of-self : goal.invariant_of-self
 invariant_of-self g c =
-    holds_changed (state g.S.Store c.self.inside.conn) (state g.S.Store c.append.new.conn) c.self.inside.stage c.told.new.stage c.self.inside.limit
-    c.append.result c.told.result (appended c.args.entry c.args.reply (content_in (state g.S.Store c.self.inside.conn).now)) (ap (λ k. k.stage) c.self.view_is ∙ c.requires.stage) c.self.invariant c.append.ensures.write c.told.ensures
+    holds_changed (g.S.Session.state c.self.inside.conn) (g.S.Session.state c.append.new.conn) c.self.inside.stage c.told.new.stage c.self.inside.limit
+    c.append.result c.told.result (appended c.args.entry c.args.reply (content_in (g.S.Session.state c.self.inside.conn).now)) (ap (λ k. k.stage) c.self.view_is ∙ c.requires.stage) c.self.invariant c.append.ensures.write c.told.ensures
     (λ clean is_open has desk. c.append.ensures.changed clean is_open has desk c.self.inside.limit
-    (subst (λ (k : Kept _). HasCleanDisk (state g.S.Store k.connection) → IsTrue (state g.S.Store k.connection).is_open → CanAppend k.room c.args.entry c.args.reply (content_in (state g.S.Store k.connection).now)) (sym c.self.view_is) c.requires.fits
+    (subst (λ (k : Kept _). HasCleanDisk (g.S.Session.state k.connection) → IsTrue (g.S.Session.state k.connection).is_open → CanAppend k.room c.args.entry c.args.reply (content_in (g.S.Session.state k.connection).now)) (sym c.self.view_is) c.requires.fits
     (was_clean _ _ c.append.ensures.write.later clean) is_open))
 
 pub returns-clause-added : goal.returns-clause-added
 returns-clause-added g c =
-    subst (λ (k : Kept _). HasCleanDisk (state g.S.Store c.append.new.conn) → IsTrue (state g.S.Store k.connection).is_open
-    → OnOk c.told.result (content_in (state g.S.Store c.append.new.conn).now ≡ appended c.args.entry c.args.reply (content_in (state g.S.Store k.connection).now))) c.self.view_is
-    (told_content (state g.S.Store c.self.inside.conn) (state g.S.Store c.append.new.conn) c.self.inside.stage c.told.new.stage c.self.inside.limit
-    c.append.result c.told.result (appended c.args.entry c.args.reply (content_in (state g.S.Store c.self.inside.conn).now)) (ap (λ k. k.stage) c.self.view_is ∙ c.requires.stage) c.self.invariant.0 c.append.ensures.write c.told.ensures
+    subst (λ (k : Kept _). HasCleanDisk (g.S.Session.state c.append.new.conn) → IsTrue (g.S.Session.state k.connection).is_open
+    → OnOk c.told.result (content_in (g.S.Session.state c.append.new.conn).now ≡ appended c.args.entry c.args.reply (content_in (g.S.Session.state k.connection).now))) c.self.view_is
+    (told_content (g.S.Session.state c.self.inside.conn) (g.S.Session.state c.append.new.conn) c.self.inside.stage c.told.new.stage c.self.inside.limit
+    c.append.result c.told.result (appended c.args.entry c.args.reply (content_in (g.S.Session.state c.self.inside.conn).now)) (ap (λ k. k.stage) c.self.view_is ∙ c.requires.stage) c.self.invariant.0 c.append.ensures.write c.told.ensures
     (λ clean is_open has desk. c.append.ensures.changed clean is_open has desk c.self.inside.limit
-    (subst (λ (k : Kept _). HasCleanDisk (state g.S.Store k.connection) → IsTrue (state g.S.Store k.connection).is_open → CanAppend k.room c.args.entry c.args.reply (content_in (state g.S.Store k.connection).now)) (sym c.self.view_is) c.requires.fits
+    (subst (λ (k : Kept _). HasCleanDisk (g.S.Session.state k.connection) → IsTrue (g.S.Session.state k.connection).is_open → CanAppend k.room c.args.entry c.args.reply (content_in (g.S.Session.state k.connection).now)) (sym c.self.view_is) c.requires.fits
     (was_clean _ _ c.append.ensures.write.later clean) is_open)))
 
 pub returns-clause-change : goal.returns-clause-change
 returns-clause-change g c =
-    let old = state g.S.Store c.self.inside.conn in
-    let new = state g.S.Store c.append.new.conn in
+    let old = g.S.Session.state c.self.inside.conn in
+    let new = g.S.Session.state c.append.new.conn in
     let begun = ap (λ k. k.stage) c.self.view_is ∙ c.requires.stage in
-    let can = subst (λ (k : Kept _). HasCleanDisk (state g.S.Store k.connection) → IsTrue (state g.S.Store k.connection).is_open → CanAppend k.room c.args.entry c.args.reply (content_in (state g.S.Store k.connection).now)) (sym c.self.view_is) c.requires.fits in
+    let can = subst (λ (k : Kept _). HasCleanDisk (g.S.Session.state k.connection) → IsTrue (g.S.Session.state k.connection).is_open → CanAppend k.room c.args.entry c.args.reply (content_in (g.S.Session.state k.connection).now)) (sym c.self.view_is) c.requires.fits in
     let was = was_clean old new c.append.ensures.write.later in
-    subst (λ (k : Kept _). IsChange c.told.result (shown (state g.S.Store k.connection) k.stage k.room) (shown new c.told.new.stage c.self.inside.limit)) c.self.view_is
+    subst (λ (k : Kept _). IsChange c.told.result (shown (g.S.Session.state k.connection) k.stage k.room) (shown new c.told.new.stage c.self.inside.limit)) c.self.view_is
     (write_said old new c.self.inside.stage c.told.new.stage c.self.inside.limit c.append.result c.told.result begun c.self.invariant.0 c.self.invariant.1.unlimited c.append.ensures.write
     (λ clean is_open has desk. c.append.ensures.blame clean is_open has desk c.self.inside.limit (let few = c.self.invariant.1.few in omega (arith, few)) (can (was clean) is_open)) c.told.ensures)

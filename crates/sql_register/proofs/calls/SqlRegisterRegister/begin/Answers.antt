@@ -1,6 +1,5 @@
 use Rattle.std.proofs.Common.{rules, ap, subst, sym, ◌∙◌}
 use Rattle.std.specs.Prelude.{Err}
-use Rattle.sqlite.specs.Held.{state}
 use Rattle.sql_register.specs.Kept.{IsOpenDesk, Kept, shown}
 use Rattle.desk_register.specs.View.{Blames}
 use Rattle.sql_register.specs.Told.{fault_for}
@@ -11,8 +10,8 @@ use Rattle.sql_register.proofs.calls.SqlRegisterRegister.begin.Goals as goal
 
 pub invariant_of-self : goal.invariant_of-self
 invariant_of-self g c =
-    let old = state g.S.Store c.self.inside.conn in
-    let new = state g.S.Store c.begin.new.conn in
+    let old = g.S.Session.state c.self.inside.conn in
+    let new = g.S.Session.state c.begin.new.conn in
     let idle = ap (λ k. k.stage) c.self.view_is ∙ c.requires in
     let was = was_clean old new c.begin.ensures.later in (
       λ clean is_open.
@@ -23,15 +22,15 @@ invariant_of-self g c =
     )
 
 pub invariant_of-self-in-Err : goal.invariant_of-self-in-Err
-invariant_of-self-in-Err g c = (search rules, bounded_later (state g.S.Store c.self.inside.conn) (state g.S.Store c.begin.new.conn) c.self.inside.limit c.self.invariant.1 c.begin.ensures.later)
+invariant_of-self-in-Err g c = (search rules, bounded_later (g.S.Session.state c.self.inside.conn) (g.S.Session.state c.begin.new.conn) c.self.inside.limit c.self.invariant.1 c.begin.ensures.later)
 
 pub returns-in-Err-clause-blame : goal.returns-in-Err-clause-blame
 returns-in-Err-clause-blame g c =
-    let old = state g.S.Store c.self.inside.conn in
-    let new = state g.S.Store c.begin.new.conn in
+    let old = g.S.Session.state c.self.inside.conn in
+    let new = g.S.Session.state c.begin.new.conn in
     let idle = ap (λ k. k.stage) c.self.view_is ∙ c.requires in
     let was = was_clean old new c.begin.ensures.later in
-    subst (λ f. Blames (Err f) (shown (state g.S.Store c.args.self.now.connection) c.args.self.now.stage c.args.self.now.room) (shown new c.self.inside.stage c.self.inside.limit)) (sym c.fault_of.ensures)
-    (subst (λ (k : Kept _). Blames (Err (fault_for c.in-Err.error)) (shown (state g.S.Store k.connection) k.stage k.room) (shown new c.self.inside.stage c.self.inside.limit)) c.self.view_is
+    subst (λ f. Blames (Err f) (shown (g.S.Session.state c.args.self.now.connection) c.args.self.now.stage c.args.self.now.room) (shown new c.self.inside.stage c.self.inside.limit)) (sym c.fault_of.ensures)
+    (subst (λ (k : Kept _). Blames (Err (fault_for c.in-Err.error)) (shown (g.S.Session.state k.connection) k.stage k.room) (shown new c.self.inside.stage c.self.inside.limit)) c.self.view_is
     (blames_told old new c.self.inside.stage c.self.inside.stage c.self.inside.limit c.in-Err.error c.self.invariant.0 c.begin.ensures.later c.self.invariant.1.unlimited
     (λ clean is_open has desk. c.in-Err.ensures.blame clean is_open has ((c.self.invariant.0 (was clean) is_open).closed idle))))

@@ -1,5 +1,4 @@
 use Rattle.std.proofs.Common.{◌≡◌, ◌≢◌, IfOk, IsTrue, subst}
-use Rattle.sqlite.specs.Held.{state}
 use Rattle.sqlite.specs.State.{HasCleanDisk}
 use Rattle.desk_register.specs.declared.register.Stage.TheVariants.{Failed}
 use Rattle.desk_register.specs.View.{IsRead}
@@ -11,18 +10,18 @@ use Rattle.sql_register.proofs.calls.SqlRegisterRegister.cash.Goals as goal
 
 pub returns-clause-read : goal.returns-clause-read
 returns-clause-read g c =
-    subst (λ (k : Kept _). IsRead c.told.result (shown (state g.S.Store k.connection) k.stage k.room) (shown (state g.S.Store c.recorded.new.conn) c.told.new.stage c.self.inside.limit)) c.self.view_is
-    (read_told (state g.S.Store c.self.inside.conn) (state g.S.Store c.recorded.new.conn) c.self.inside.stage c.told.new.stage c.self.inside.limit
+    subst (λ (k : Kept _). IsRead c.told.result (shown (g.S.Session.state k.connection) k.stage k.room) (shown (g.S.Session.state c.recorded.new.conn) c.told.new.stage c.self.inside.limit)) c.self.view_is
+    (read_told (g.S.Session.state c.self.inside.conn) (g.S.Session.state c.recorded.new.conn) c.self.inside.stage c.told.new.stage c.self.inside.limit
     c.recorded.result c.told.result c.self.invariant.0 c.self.invariant.1.unlimited c.recorded.ensures.look (λ clean is_open has desk. c.recorded.ensures.blame clean is_open has desk.amounts) c.told.ensures)
 
 pub invariant_of-self : goal.invariant_of-self
 invariant_of-self g c =
-    holds_told (state g.S.Store c.self.inside.conn) (state g.S.Store c.recorded.new.conn) c.self.inside.stage c.told.new.stage c.self.inside.limit
+    holds_told (g.S.Session.state c.self.inside.conn) (g.S.Session.state c.recorded.new.conn) c.self.inside.stage c.told.new.stage c.self.inside.limit
     c.recorded.result c.told.result c.self.invariant c.recorded.ensures.look c.told.ensures
 
 pub returns-clause-value : goal.returns-clause-value
 returns-clause-value g c =
-    subst (λ (k : Kept _). HasCleanDisk (state g.S.Store c.recorded.new.conn) → IsTrue (state g.S.Store k.connection).is_open → k.stage ≢ Failed → IfOk c.told.result (λ r. r ≡ (content_in (state g.S.Store k.connection).now).cash c.args.bic c.args.ccy)) c.self.view_is
-    (λ clean is_open goes. value_told (state g.S.Store c.self.inside.conn) (state g.S.Store c.recorded.new.conn) c.self.inside.stage c.told.new.stage c.self.inside.limit
-    (λ r. r ≡ (content_in (state g.S.Store c.self.inside.conn).now).cash c.args.bic c.args.ccy) c.recorded.result c.told.result c.self.invariant.0 c.recorded.ensures.look.later
+    subst (λ (k : Kept _). HasCleanDisk (g.S.Session.state c.recorded.new.conn) → IsTrue (g.S.Session.state k.connection).is_open → k.stage ≢ Failed → IfOk c.told.result (λ r. r ≡ (content_in (g.S.Session.state k.connection).now).cash c.args.bic c.args.ccy)) c.self.view_is
+    (λ clean is_open goes. value_told (g.S.Session.state c.self.inside.conn) (g.S.Session.state c.recorded.new.conn) c.self.inside.stage c.told.new.stage c.self.inside.limit
+    (λ r. r ≡ (content_in (g.S.Session.state c.self.inside.conn).now).cash c.args.bic c.args.ccy) c.recorded.result c.told.result c.self.invariant.0 c.recorded.ensures.look.later
     (λ clean is_open has desk. c.recorded.ensures.value clean is_open has desk.amounts) c.told.ensures clean is_open goes)

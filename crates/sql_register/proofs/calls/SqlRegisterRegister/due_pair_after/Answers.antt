@@ -1,5 +1,4 @@
 use Rattle.std.proofs.Common.{subst}
-use Rattle.sqlite.specs.Held.{state}
 use Rattle.desk_register.specs.View.{IsRead}
 use Rattle.sql_register.specs.Kept.{Kept, shown}
 use Rattle.sql_register.proofs.KeptLemmas.{holds_told}
@@ -8,11 +7,11 @@ use Rattle.sql_register.proofs.calls.SqlRegisterRegister.due_pair_after.Goals as
 
 pub returns-clause-read : goal.returns-clause-read
 returns-clause-read g c =
-    subst (λ (k : Kept _). IsRead c.told.result (shown (state g.S.Store k.connection) k.stage k.room) (shown (state g.S.Store c.due_pair_after.new.conn) c.told.new.stage c.self.inside.limit)) c.self.view_is
-    (read_told (state g.S.Store c.self.inside.conn) (state g.S.Store c.due_pair_after.new.conn) c.self.inside.stage c.told.new.stage c.self.inside.limit
+    subst (λ (k : Kept _). IsRead c.told.result (shown (g.S.Session.state k.connection) k.stage k.room) (shown (g.S.Session.state c.due_pair_after.new.conn) c.told.new.stage c.self.inside.limit)) c.self.view_is
+    (read_told (g.S.Session.state c.self.inside.conn) (g.S.Session.state c.due_pair_after.new.conn) c.self.inside.stage c.told.new.stage c.self.inside.limit
     c.due_pair_after.result c.told.result c.self.invariant.0 c.self.invariant.1.unlimited c.due_pair_after.ensures.look (λ clean is_open has desk. c.due_pair_after.ensures.blame clean is_open has desk) c.told.ensures)
 
 pub invariant_of-self : goal.invariant_of-self
 invariant_of-self g c =
-    holds_told (state g.S.Store c.self.inside.conn) (state g.S.Store c.due_pair_after.new.conn) c.self.inside.stage c.told.new.stage c.self.inside.limit
+    holds_told (g.S.Session.state c.self.inside.conn) (g.S.Session.state c.due_pair_after.new.conn) c.self.inside.stage c.told.new.stage c.self.inside.limit
     c.due_pair_after.result c.told.result c.self.invariant c.due_pair_after.ensures.look c.told.ensures

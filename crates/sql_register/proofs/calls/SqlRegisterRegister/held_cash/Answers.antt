@@ -1,5 +1,4 @@
 use Rattle.std.proofs.Common.{◌≡◌, ◌≢◌, IfOk, IsTrue, subst, sym}
-use Rattle.sqlite.specs.Held.{state}
 use Rattle.sqlite.specs.State.{HasCleanDisk}
 use Rattle.desk_register.specs.declared.register.Stage.TheVariants.{Failed}
 use Rattle.desk_register.specs.View.{IsRead}
@@ -13,18 +12,18 @@ use Rattle.sql_register.proofs.calls.SqlRegisterRegister.held_cash.Goals as goal
 
 pub returns-clause-read : goal.returns-clause-read
 returns-clause-read g c =
-    subst (λ (k : Kept _). IsRead c.told.result (shown (state g.S.Store k.connection) k.stage k.room) (shown (state g.S.Store c.held_cash.new.conn) c.told.new.stage c.self.inside.limit)) c.self.view_is
-    (read_told (state g.S.Store c.self.inside.conn) (state g.S.Store c.held_cash.new.conn) c.self.inside.stage c.told.new.stage c.self.inside.limit
-    c.held_cash.result c.told.result c.self.invariant.0 c.self.invariant.1.unlimited c.held_cash.ensures.look (λ clean is_open has desk. c.held_cash.ensures.blame clean is_open has desk.amounts (cash_fits (state g.S.Store c.self.inside.conn).now desk c.args.ccy)) c.told.ensures)
+    subst (λ (k : Kept _). IsRead c.told.result (shown (g.S.Session.state k.connection) k.stage k.room) (shown (g.S.Session.state c.held_cash.new.conn) c.told.new.stage c.self.inside.limit)) c.self.view_is
+    (read_told (g.S.Session.state c.self.inside.conn) (g.S.Session.state c.held_cash.new.conn) c.self.inside.stage c.told.new.stage c.self.inside.limit
+    c.held_cash.result c.told.result c.self.invariant.0 c.self.invariant.1.unlimited c.held_cash.ensures.look (λ clean is_open has desk. c.held_cash.ensures.blame clean is_open has desk.amounts (cash_fits (g.S.Session.state c.self.inside.conn).now desk c.args.ccy)) c.told.ensures)
 
 pub returns-clause-value : goal.returns-clause-value
 returns-clause-value g c =
-    subst (λ (k : Kept _). HasCleanDisk (state g.S.Store c.held_cash.new.conn) → IsTrue (state g.S.Store k.connection).is_open → k.stage ≢ Failed → IfOk c.told.result (λ r. r ≡ held_cash_of (content_in (state g.S.Store k.connection).now) c.args.ccy)) c.self.view_is
-    (λ clean is_open goes. value_told (state g.S.Store c.self.inside.conn) (state g.S.Store c.held_cash.new.conn) c.self.inside.stage c.told.new.stage c.self.inside.limit
-    (λ r. r ≡ held_cash_of (content_in (state g.S.Store c.self.inside.conn).now) c.args.ccy) c.held_cash.result c.told.result c.self.invariant.0 c.held_cash.ensures.look.later
-    (λ clean is_open has desk. subst (λ total. IfOk c.held_cash.result (λ r. r ≡ total)) (sym (cash_is (state g.S.Store c.self.inside.conn).now desk c.args.ccy)) (c.held_cash.ensures.value clean is_open has desk.amounts)) c.told.ensures clean is_open goes)
+    subst (λ (k : Kept _). HasCleanDisk (g.S.Session.state c.held_cash.new.conn) → IsTrue (g.S.Session.state k.connection).is_open → k.stage ≢ Failed → IfOk c.told.result (λ r. r ≡ held_cash_of (content_in (g.S.Session.state k.connection).now) c.args.ccy)) c.self.view_is
+    (λ clean is_open goes. value_told (g.S.Session.state c.self.inside.conn) (g.S.Session.state c.held_cash.new.conn) c.self.inside.stage c.told.new.stage c.self.inside.limit
+    (λ r. r ≡ held_cash_of (content_in (g.S.Session.state c.self.inside.conn).now) c.args.ccy) c.held_cash.result c.told.result c.self.invariant.0 c.held_cash.ensures.look.later
+    (λ clean is_open has desk. subst (λ total. IfOk c.held_cash.result (λ r. r ≡ total)) (sym (cash_is (g.S.Session.state c.self.inside.conn).now desk c.args.ccy)) (c.held_cash.ensures.value clean is_open has desk.amounts)) c.told.ensures clean is_open goes)
 
 pub invariant_of-self : goal.invariant_of-self
 invariant_of-self g c =
-    holds_told (state g.S.Store c.self.inside.conn) (state g.S.Store c.held_cash.new.conn) c.self.inside.stage c.told.new.stage c.self.inside.limit
+    holds_told (g.S.Session.state c.self.inside.conn) (g.S.Session.state c.held_cash.new.conn) c.self.inside.stage c.told.new.stage c.self.inside.limit
     c.held_cash.result c.told.result c.self.invariant c.held_cash.ensures.look c.told.ensures

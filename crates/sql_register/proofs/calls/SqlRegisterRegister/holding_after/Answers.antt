@@ -1,5 +1,4 @@
 use Rattle.std.proofs.Common.{subst, ◌≢◌, IfOk, IsTrue}
-use Rattle.sqlite.specs.Held.{state}
 use Rattle.desk_register.specs.View.{IsRead}
 use Rattle.sql_register.specs.Kept.{Kept, shown}
 use Rattle.sql_register.proofs.KeptLemmas.{holds_told}
@@ -12,18 +11,18 @@ use Rattle.sql_register.proofs.calls.SqlRegisterRegister.holding_after.Goals as 
 
 pub returns-clause-read : goal.returns-clause-read
 returns-clause-read g c =
-    subst (λ (k : Kept _). IsRead c.told.result (shown (state g.S.Store k.connection) k.stage k.room) (shown (state g.S.Store c.holding_after.new.conn) c.told.new.stage c.self.inside.limit)) c.self.view_is
-    (read_told (state g.S.Store c.self.inside.conn) (state g.S.Store c.holding_after.new.conn) c.self.inside.stage c.told.new.stage c.self.inside.limit
+    subst (λ (k : Kept _). IsRead c.told.result (shown (g.S.Session.state k.connection) k.stage k.room) (shown (g.S.Session.state c.holding_after.new.conn) c.told.new.stage c.self.inside.limit)) c.self.view_is
+    (read_told (g.S.Session.state c.self.inside.conn) (g.S.Session.state c.holding_after.new.conn) c.self.inside.stage c.told.new.stage c.self.inside.limit
     c.holding_after.result c.told.result c.self.invariant.0 c.self.invariant.1.unlimited c.holding_after.ensures.look (λ clean is_open has desk. c.holding_after.ensures.blame clean is_open has desk) c.told.ensures)
 
 pub invariant_of-self : goal.invariant_of-self
 invariant_of-self g c =
-    holds_told (state g.S.Store c.self.inside.conn) (state g.S.Store c.holding_after.new.conn) c.self.inside.stage c.told.new.stage c.self.inside.limit
+    holds_told (g.S.Session.state c.self.inside.conn) (g.S.Session.state c.holding_after.new.conn) c.self.inside.stage c.told.new.stage c.self.inside.limit
     c.holding_after.result c.told.result c.self.invariant c.holding_after.ensures.look c.told.ensures
 
 pub returns-clause-value : goal.returns-clause-value
 returns-clause-value g c =
-    subst (λ (k : Kept _). HasCleanDisk (state g.S.Store c.holding_after.new.conn) → IsTrue (state g.S.Store k.connection).is_open → k.stage ≢ Failed → IfOk c.told.result (IsHoldingAfter (content_in (state g.S.Store k.connection).now) c.args.account c.args.isin)) c.self.view_is
-    (λ clean is_open goes. value_told (state g.S.Store c.self.inside.conn) (state g.S.Store c.holding_after.new.conn) c.self.inside.stage c.told.new.stage c.self.inside.limit
-    (IsHoldingAfter (content_in (state g.S.Store c.self.inside.conn).now) c.args.account c.args.isin) c.holding_after.result c.told.result c.self.invariant.0 c.holding_after.ensures.look.later
+    subst (λ (k : Kept _). HasCleanDisk (g.S.Session.state c.holding_after.new.conn) → IsTrue (g.S.Session.state k.connection).is_open → k.stage ≢ Failed → IfOk c.told.result (IsHoldingAfter (content_in (g.S.Session.state k.connection).now) c.args.account c.args.isin)) c.self.view_is
+    (λ clean is_open goes. value_told (g.S.Session.state c.self.inside.conn) (g.S.Session.state c.holding_after.new.conn) c.self.inside.stage c.told.new.stage c.self.inside.limit
+    (IsHoldingAfter (content_in (g.S.Session.state c.self.inside.conn).now) c.args.account c.args.isin) c.holding_after.result c.told.result c.self.invariant.0 c.holding_after.ensures.look.later
     (c.holding_after.ensures.value) c.told.ensures clean is_open goes)

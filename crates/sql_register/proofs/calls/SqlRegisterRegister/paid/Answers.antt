@@ -1,5 +1,4 @@
 use Rattle.std.proofs.Common.{◌≢◌, IfOk, IsTrue, subst, sym}
-use Rattle.sqlite.specs.Held.{state}
 use Rattle.sqlite.specs.State.{HasCleanDisk}
 use Rattle.desk_rules.specs.Content.{history_of}
 use Rattle.desk_register.specs.Looked.{IsPaid}
@@ -14,18 +13,18 @@ use Rattle.sql_register.proofs.calls.SqlRegisterRegister.paid.Goals as goal
 
 pub returns-clause-read : goal.returns-clause-read
 returns-clause-read g c =
-    subst (λ (k : Kept _). IsRead c.told.result (shown (state g.S.Store k.connection) k.stage k.room) (shown (state g.S.Store c.amount.new.conn) c.told.new.stage c.self.inside.limit)) c.self.view_is
-    (read_told (state g.S.Store c.self.inside.conn) (state g.S.Store c.amount.new.conn) c.self.inside.stage c.told.new.stage c.self.inside.limit
+    subst (λ (k : Kept _). IsRead c.told.result (shown (g.S.Session.state k.connection) k.stage k.room) (shown (g.S.Session.state c.amount.new.conn) c.told.new.stage c.self.inside.limit)) c.self.view_is
+    (read_told (g.S.Session.state c.self.inside.conn) (g.S.Session.state c.amount.new.conn) c.self.inside.stage c.told.new.stage c.self.inside.limit
     c.amount.result c.told.result c.self.invariant.0 c.self.invariant.1.unlimited c.amount.ensures.look (λ clean is_open has desk. c.amount.ensures.blame clean is_open has desk.amounts) c.told.ensures)
 
 pub invariant_of-self : goal.invariant_of-self
 invariant_of-self g c =
-    holds_told (state g.S.Store c.self.inside.conn) (state g.S.Store c.amount.new.conn) c.self.inside.stage c.told.new.stage c.self.inside.limit
+    holds_told (g.S.Session.state c.self.inside.conn) (g.S.Session.state c.amount.new.conn) c.self.inside.stage c.told.new.stage c.self.inside.limit
     c.amount.result c.told.result c.self.invariant c.amount.ensures.look c.told.ensures
 
 pub returns-clause-value : goal.returns-clause-value
 returns-clause-value g c =
-    subst (λ (k : Kept _). HasCleanDisk (state g.S.Store c.amount.new.conn) → IsTrue (state g.S.Store k.connection).is_open → k.stage ≢ Failed → IfOk c.told.result (IsPaid (history_of (content_in (state g.S.Store k.connection).now)) c.args.ccy)) c.self.view_is
-    (λ clean is_open goes. value_told (state g.S.Store c.self.inside.conn) (state g.S.Store c.amount.new.conn) c.self.inside.stage c.told.new.stage c.self.inside.limit
-    (IsPaid (history_of (content_in (state g.S.Store c.self.inside.conn).now)) c.args.ccy) c.amount.result c.told.result c.self.invariant.0 c.amount.ensures.look.later
-    (λ clean is_open has desk. on_value c.amount.result (λ r is. subst (IsPaid (history_of (content_in (state g.S.Store c.self.inside.conn).now)) c.args.ccy) (sym is) (desk.totals.paid c.args.ccy)) (c.amount.ensures.value clean is_open has desk.amounts)) c.told.ensures clean is_open goes)
+    subst (λ (k : Kept _). HasCleanDisk (g.S.Session.state c.amount.new.conn) → IsTrue (g.S.Session.state k.connection).is_open → k.stage ≢ Failed → IfOk c.told.result (IsPaid (history_of (content_in (g.S.Session.state k.connection).now)) c.args.ccy)) c.self.view_is
+    (λ clean is_open goes. value_told (g.S.Session.state c.self.inside.conn) (g.S.Session.state c.amount.new.conn) c.self.inside.stage c.told.new.stage c.self.inside.limit
+    (IsPaid (history_of (content_in (g.S.Session.state c.self.inside.conn).now)) c.args.ccy) c.amount.result c.told.result c.self.invariant.0 c.amount.ensures.look.later
+    (λ clean is_open has desk. on_value c.amount.result (λ r is. subst (IsPaid (history_of (content_in (g.S.Session.state c.self.inside.conn).now)) c.args.ccy) (sym is) (desk.totals.paid c.args.ccy)) (c.amount.ensures.value clean is_open has desk.amounts)) c.told.ensures clean is_open goes)

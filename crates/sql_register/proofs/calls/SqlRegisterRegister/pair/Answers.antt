@@ -1,5 +1,4 @@
 use Rattle.std.proofs.Common.{OnOk, ◌≡◌, ap, ◌∙◌, subst, sym, IsTrue}
-use Rattle.sqlite.specs.Held.{state}
 use Rattle.sqlite.specs.State.{HasCleanDisk}
 use Rattle.desk_register.specs.Changes.{CanPair, paired}
 use Rattle.desk_register.specs.View.{IsChange}
@@ -15,34 +14,34 @@ use Rattle.sql_register.proofs.calls.SqlRegisterRegister.pair.Goals as goal
 
 pub invariant_of-self : goal.invariant_of-self
 invariant_of-self g c =
-    holds_changed (state g.S.Store c.self.inside.conn) (state g.S.Store c.stand_both.new.conn) c.self.inside.stage c.told.new.stage c.self.inside.limit
-    c.stand_both.result c.told.result (paired c.args.earlier c.args.later (content_in (state g.S.Store c.self.inside.conn).now)) (ap (λ k. k.stage) c.self.view_is ∙ c.requires.stage) c.self.invariant c.stand_both.ensures.write c.told.ensures
+    holds_changed (g.S.Session.state c.self.inside.conn) (g.S.Session.state c.stand_both.new.conn) c.self.inside.stage c.told.new.stage c.self.inside.limit
+    c.stand_both.result c.told.result (paired c.args.earlier c.args.later (content_in (g.S.Session.state c.self.inside.conn).now)) (ap (λ k. k.stage) c.self.view_is ∙ c.requires.stage) c.self.invariant c.stand_both.ensures.write c.told.ensures
     (λ clean is_open has desk.
-    let old = state g.S.Store c.self.inside.conn in
-    let can0 = (subst (λ (k : Kept _). HasCleanDisk (state g.S.Store k.connection) → IsTrue (state g.S.Store k.connection).is_open → CanPair (content_in (state g.S.Store k.connection).now) c.args.earlier c.args.later) (sym c.self.view_is) c.requires.fits
+    let old = g.S.Session.state c.self.inside.conn in
+    let can0 = (subst (λ (k : Kept _). HasCleanDisk (g.S.Session.state k.connection) → IsTrue (g.S.Session.state k.connection).is_open → CanPair (content_in (g.S.Session.state k.connection).now) c.args.earlier c.args.later) (sym c.self.view_is) c.requires.fits
     (was_clean _ _ c.stand_both.ensures.write.later clean) is_open) in
-    pair_call old.now old (state g.S.Store c.stand_both.new.conn) c.args.earlier c.args.later desk c.stand_both.result can0 (c.stand_both.ensures.write.ok clean is_open has) (c.stand_both.ensures.changed clean is_open has desk.standings))
+    pair_call old.now old (g.S.Session.state c.stand_both.new.conn) c.args.earlier c.args.later desk c.stand_both.result can0 (c.stand_both.ensures.write.ok clean is_open has) (c.stand_both.ensures.changed clean is_open has desk.standings))
 
 pub returns-clause-paired : goal.returns-clause-paired
 returns-clause-paired g c =
-    subst (λ (k : Kept _). HasCleanDisk (state g.S.Store c.stand_both.new.conn) → IsTrue (state g.S.Store k.connection).is_open
-    → OnOk c.told.result (content_in (state g.S.Store c.stand_both.new.conn).now ≡ paired c.args.earlier c.args.later (content_in (state g.S.Store k.connection).now))) c.self.view_is
-    (told_content (state g.S.Store c.self.inside.conn) (state g.S.Store c.stand_both.new.conn) c.self.inside.stage c.told.new.stage c.self.inside.limit
-    c.stand_both.result c.told.result (paired c.args.earlier c.args.later (content_in (state g.S.Store c.self.inside.conn).now)) (ap (λ k. k.stage) c.self.view_is ∙ c.requires.stage) c.self.invariant.0 c.stand_both.ensures.write c.told.ensures
+    subst (λ (k : Kept _). HasCleanDisk (g.S.Session.state c.stand_both.new.conn) → IsTrue (g.S.Session.state k.connection).is_open
+    → OnOk c.told.result (content_in (g.S.Session.state c.stand_both.new.conn).now ≡ paired c.args.earlier c.args.later (content_in (g.S.Session.state k.connection).now))) c.self.view_is
+    (told_content (g.S.Session.state c.self.inside.conn) (g.S.Session.state c.stand_both.new.conn) c.self.inside.stage c.told.new.stage c.self.inside.limit
+    c.stand_both.result c.told.result (paired c.args.earlier c.args.later (content_in (g.S.Session.state c.self.inside.conn).now)) (ap (λ k. k.stage) c.self.view_is ∙ c.requires.stage) c.self.invariant.0 c.stand_both.ensures.write c.told.ensures
     (λ clean is_open has desk.
-    let old = state g.S.Store c.self.inside.conn in
-    let can0 = (subst (λ (k : Kept _). HasCleanDisk (state g.S.Store k.connection) → IsTrue (state g.S.Store k.connection).is_open → CanPair (content_in (state g.S.Store k.connection).now) c.args.earlier c.args.later) (sym c.self.view_is) c.requires.fits
+    let old = g.S.Session.state c.self.inside.conn in
+    let can0 = (subst (λ (k : Kept _). HasCleanDisk (g.S.Session.state k.connection) → IsTrue (g.S.Session.state k.connection).is_open → CanPair (content_in (g.S.Session.state k.connection).now) c.args.earlier c.args.later) (sym c.self.view_is) c.requires.fits
     (was_clean _ _ c.stand_both.ensures.write.later clean) is_open) in
-    pair_call old.now old (state g.S.Store c.stand_both.new.conn) c.args.earlier c.args.later desk c.stand_both.result can0 (c.stand_both.ensures.write.ok clean is_open has) (c.stand_both.ensures.changed clean is_open has desk.standings)))
+    pair_call old.now old (g.S.Session.state c.stand_both.new.conn) c.args.earlier c.args.later desk c.stand_both.result can0 (c.stand_both.ensures.write.ok clean is_open has) (c.stand_both.ensures.changed clean is_open has desk.standings)))
 
 pub returns-clause-change : goal.returns-clause-change
 returns-clause-change g c =
-    let old = state g.S.Store c.self.inside.conn in
-    let new = state g.S.Store c.stand_both.new.conn in
+    let old = g.S.Session.state c.self.inside.conn in
+    let new = g.S.Session.state c.stand_both.new.conn in
     let begun = ap (λ k. k.stage) c.self.view_is ∙ c.requires.stage in
-    let can = subst (λ (k : Kept _). HasCleanDisk (state g.S.Store k.connection) → IsTrue (state g.S.Store k.connection).is_open → CanPair (content_in (state g.S.Store k.connection).now) c.args.earlier c.args.later) (sym c.self.view_is) c.requires.fits in
+    let can = subst (λ (k : Kept _). HasCleanDisk (g.S.Session.state k.connection) → IsTrue (g.S.Session.state k.connection).is_open → CanPair (content_in (g.S.Session.state k.connection).now) c.args.earlier c.args.later) (sym c.self.view_is) c.requires.fits in
     let was = was_clean old new c.stand_both.ensures.write.later in
-    subst (λ (k : Kept _). IsChange c.told.result (shown (state g.S.Store k.connection) k.stage k.room) (shown new c.told.new.stage c.self.inside.limit)) c.self.view_is
+    subst (λ (k : Kept _). IsChange c.told.result (shown (g.S.Session.state k.connection) k.stage k.room) (shown new c.told.new.stage c.self.inside.limit)) c.self.view_is
     (write_said old new c.self.inside.stage c.told.new.stage c.self.inside.limit c.stand_both.result c.told.result begun c.self.invariant.0 c.self.invariant.1.unlimited c.stand_both.ensures.write
     (λ clean is_open has desk.
     let can0 = can (was clean) is_open in

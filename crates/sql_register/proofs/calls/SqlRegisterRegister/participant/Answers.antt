@@ -1,5 +1,4 @@
 use Rattle.std.proofs.Common.{subst}
-use Rattle.sqlite.specs.Held.{state}
 use Rattle.desk_register.specs.View.{IsRead}
 use Rattle.sql_register.specs.Content.{content_in}
 use Rattle.sql_register.specs.Kept.{Kept, shown}
@@ -9,11 +8,11 @@ use Rattle.sql_register.proofs.calls.SqlRegisterRegister.participant.Goals as go
 
 pub returns-clause-read : goal.returns-clause-read
 returns-clause-read g c =
-    subst (λ (k : Kept _). IsRead c.told.result (shown (state g.S.Store k.connection) k.stage k.room) (shown (state g.S.Store c.is_participant.new.conn) c.told.new.stage c.self.inside.limit)) c.self.view_is
-    (read_told (state g.S.Store c.self.inside.conn) (state g.S.Store c.is_participant.new.conn) c.self.inside.stage c.told.new.stage c.self.inside.limit
-    c.is_participant.result c.told.result c.self.invariant.0 c.self.invariant.1.unlimited c.is_participant.ensures.look (λ clean is_open has desk. c.is_participant.ensures.blame clean is_open has (content_in (state g.S.Store c.self.inside.conn).now).register desk.entries) c.told.ensures)
+    subst (λ (k : Kept _). IsRead c.told.result (shown (g.S.Session.state k.connection) k.stage k.room) (shown (g.S.Session.state c.is_participant.new.conn) c.told.new.stage c.self.inside.limit)) c.self.view_is
+    (read_told (g.S.Session.state c.self.inside.conn) (g.S.Session.state c.is_participant.new.conn) c.self.inside.stage c.told.new.stage c.self.inside.limit
+    c.is_participant.result c.told.result c.self.invariant.0 c.self.invariant.1.unlimited c.is_participant.ensures.look (λ clean is_open has desk. c.is_participant.ensures.blame clean is_open has (content_in (g.S.Session.state c.self.inside.conn).now).register desk.entries) c.told.ensures)
 
 pub invariant_of-self : goal.invariant_of-self
 invariant_of-self g c =
-    holds_told (state g.S.Store c.self.inside.conn) (state g.S.Store c.is_participant.new.conn) c.self.inside.stage c.told.new.stage c.self.inside.limit
+    holds_told (g.S.Session.state c.self.inside.conn) (g.S.Session.state c.is_participant.new.conn) c.self.inside.stage c.told.new.stage c.self.inside.limit
     c.is_participant.result c.told.result c.self.invariant c.is_participant.ensures.look c.told.ensures

@@ -1,5 +1,4 @@
 use Rattle.std.proofs.Common.{ap, ◌∙◌, subst, sym, IsTrue}
-use Rattle.sqlite.specs.Held.{state}
 use Rattle.sqlite.specs.State.{HasCleanDisk}
 use Rattle.desk_codes.specs.Number.{number_of}
 use Rattle.desk_register.specs.Told.{IsKnownAt}
@@ -14,11 +13,11 @@ use Rattle.sql_register.proofs.calls.SqlRegisterToldRegister.settle_told.Goals a
 
 pub invariant_of-self : goal.invariant_of-self
 invariant_of-self g c =
-    let old = state g.S.Store c.self.inside.conn in
-    let new = state g.S.Store c.settle_found.new.conn in
+    let old = g.S.Session.state c.self.inside.conn in
+    let new = g.S.Session.state c.settle_found.new.conn in
     let begun = ap (λ k. k.stage) c.self.view_is ∙ c.requires.stage in
-    let can = subst (λ (k : Kept _). HasCleanDisk (state g.S.Store k.connection) → IsTrue (state g.S.Store k.connection).is_open → CanSettle (content_in (state g.S.Store k.connection).now) c.args.pair.now.number (number_of c.args._day)) (sym c.self.view_is) c.requires.fits in
-    let is = subst (λ (k : Kept _). HasCleanDisk (state g.S.Store k.connection) → IsTrue (state g.S.Store k.connection).is_open → IsKnownAt (content_in (state g.S.Store k.connection).now) c.args.pair.now.number c.args.pair.now) (sym c.self.view_is) c.requires.known in
+    let can = subst (λ (k : Kept _). HasCleanDisk (g.S.Session.state k.connection) → IsTrue (g.S.Session.state k.connection).is_open → CanSettle (content_in (g.S.Session.state k.connection).now) c.args.pair.now.number (number_of c.args._day)) (sym c.self.view_is) c.requires.fits in
+    let is = subst (λ (k : Kept _). HasCleanDisk (g.S.Session.state k.connection) → IsTrue (g.S.Session.state k.connection).is_open → IsKnownAt (content_in (g.S.Session.state k.connection).now) c.args.pair.now.number c.args.pair.now) (sym c.self.view_is) c.requires.known in
     let was = was_clean old new c.settle_found.ensures.trial.later in (
       tried_kept old new c.self.inside.stage c.told.new.stage c.self.inside.limit c.settle_found.result c.told.result begun c.self.invariant.0 c.settle_found.ensures.trial c.told.ensures
           (λ clean is_open has desk inside none. ok_first _ _ c.settle_found.result (c.settle_found.ensures.changed clean is_open has desk (number_of c.args._day) (can (was clean) is_open) (is (was clean) is_open).is_pair inside none)),
@@ -27,12 +26,12 @@ invariant_of-self g c =
 
 pub returns-clause-change : goal.returns-clause-change
 returns-clause-change g c =
-    let old = state g.S.Store c.self.inside.conn in
-    let new = state g.S.Store c.settle_found.new.conn in
+    let old = g.S.Session.state c.self.inside.conn in
+    let new = g.S.Session.state c.settle_found.new.conn in
     let begun = ap (λ k. k.stage) c.self.view_is ∙ c.requires.stage in
-    let can = subst (λ (k : Kept _). HasCleanDisk (state g.S.Store k.connection) → IsTrue (state g.S.Store k.connection).is_open → CanSettle (content_in (state g.S.Store k.connection).now) c.args.pair.now.number (number_of c.args._day)) (sym c.self.view_is) c.requires.fits in
-    let is = subst (λ (k : Kept _). HasCleanDisk (state g.S.Store k.connection) → IsTrue (state g.S.Store k.connection).is_open → IsKnownAt (content_in (state g.S.Store k.connection).now) c.args.pair.now.number c.args.pair.now) (sym c.self.view_is) c.requires.known in
+    let can = subst (λ (k : Kept _). HasCleanDisk (g.S.Session.state k.connection) → IsTrue (g.S.Session.state k.connection).is_open → CanSettle (content_in (g.S.Session.state k.connection).now) c.args.pair.now.number (number_of c.args._day)) (sym c.self.view_is) c.requires.fits in
+    let is = subst (λ (k : Kept _). HasCleanDisk (g.S.Session.state k.connection) → IsTrue (g.S.Session.state k.connection).is_open → IsKnownAt (content_in (g.S.Session.state k.connection).now) c.args.pair.now.number c.args.pair.now) (sym c.self.view_is) c.requires.known in
     let was = was_clean old new c.settle_found.ensures.trial.later in
-    subst (λ (k : Kept _). IsChange c.told.result (shown (state g.S.Store k.connection) k.stage k.room) (shown new c.told.new.stage c.self.inside.limit)) c.self.view_is
+    subst (λ (k : Kept _). IsChange c.told.result (shown (g.S.Session.state k.connection) k.stage k.room) (shown new c.told.new.stage c.self.inside.limit)) c.self.view_is
     (trial_said old new c.self.inside.stage c.told.new.stage c.self.inside.limit c.settle_found.result c.told.result begun c.self.invariant.0 c.self.invariant.1.unlimited c.settle_found.ensures.trial
     (λ clean is_open has desk inside none. c.settle_found.ensures.blame clean is_open has desk (number_of c.args._day) (can (was clean) is_open) (is (was clean) is_open).is_pair inside none) c.told.ensures)

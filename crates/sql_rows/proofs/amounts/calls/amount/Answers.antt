@@ -1,4 +1,3 @@
-use Rattle.sqlite.specs.Held.{state}
 use Rattle.sql_tables.specs.Ends.{ForCause}
 use Rattle.sql_tables.proofs.ResultLemmas.{on_error}
 use Rattle.sql_rows.proofs.StepLemmas.{look_handed, look_so, no_value}
@@ -8,10 +7,10 @@ pub returns-in_err-rows-clause-value : goal.returns-in_err-rows-clause-value
 returns-in_err-rows-clause-value g c = λ clean is_open has amounts. no_value c.in_err-rows.field-0.0 c.from_residual.result c.from_residual.ensures.1 _
 
 pub returns-in_err-rows-clause-look : goal.returns-in_err-rows-clause-look
-returns-in_err-rows-clause-look g c = look_handed c.in_err-rows.field-0.0 c.from_residual.result c.from_residual.ensures.1 (state g.S.Store c.args.conn.now) (state g.S.Store c.rows_of.new.conn) c.in_err-rows.ensures.look
+returns-in_err-rows-clause-look g c = look_handed c.in_err-rows.field-0.0 c.from_residual.result c.from_residual.ensures.1 (g.S.Session.state c.args.conn.now) (g.S.Session.state c.rows_of.new.conn) c.in_err-rows.ensures.look
 
 pub returns-in_err-rows-clause-blame : goal.returns-in_err-rows-clause-blame
-returns-in_err-rows-clause-blame g c = λ clean is_open has amounts. on_error c.from_residual.result c.in_err-rows.field-0.0 (ForCause (state g.S.Store c.args.conn.now) (state g.S.Store c.rows_of.new.conn)) c.from_residual.ensures.1 (c.in_err-rows.ensures.blame clean is_open has)
+returns-in_err-rows-clause-blame g c = λ clean is_open has amounts. on_error c.from_residual.result c.in_err-rows.field-0.0 (ForCause (g.S.Session.state c.args.conn.now) (g.S.Session.state c.rows_of.new.conn)) c.from_residual.ensures.1 (c.in_err-rows.ensures.blame clean is_open has)
 
 pub returns-clause-look : goal.returns-clause-look
-returns-clause-look g c = look_so c.in_ok-rows.rows c.only_number.result (state g.S.Store c.args.conn.now) (state g.S.Store c.rows_of.new.conn) c.in_ok-rows.ensures.look
+returns-clause-look g c = look_so c.in_ok-rows.rows c.only_number.result (g.S.Session.state c.args.conn.now) (g.S.Session.state c.rows_of.new.conn) c.in_ok-rows.ensures.look

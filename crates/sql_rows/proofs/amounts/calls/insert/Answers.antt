@@ -1,5 +1,4 @@
 use Rattle.std.proofs.Common.{sym, ap, subst, ◌∙◌}
-use Rattle.sqlite.specs.Held.{state}
 use Rattle.sql_tables.specs.Statements.{IsEdit}
 use Rattle.sql_rows.specs.Keys.{ledger_of}
 use Rattle.sql_rows.specs.AmountStatements.{first_text}
@@ -13,10 +12,10 @@ execute-requires g c = record { edit = subst IsEdit (sym (c.first_row-text.ensur
 
 pub returns-clause-changed : goal.returns-clause-changed
 returns-clause-changed g c clean is_open has amounts absent =
-    inserted (state g.S.Store c.args.conn.now) (state g.S.Store c.execute.new.conn) has amounts c.args.key.now c.args.amount absent c.requires.small c.execute.result
+    inserted (g.S.Session.state c.args.conn.now) (g.S.Session.state c.execute.new.conn) has amounts c.args.key.now c.args.amount absent c.requires.small c.execute.result
     (rw (c.first_row-text.ensures, c.ledger.ensures, c.first.ensures, c.second.ensures, c.integer.ensures) at (c.execute.ensures.runs clean))
 
 pub returns-clause-blame : goal.returns-clause-blame
 returns-clause-blame g c clean is_open has amounts absent =
-    first_caused (state g.S.Store c.args.conn.now) (state g.S.Store c.execute.new.conn) has is_open (c.execute.ensures.obeyed is_open) c.args.key.now c.args.amount amounts absent c.requires.small c.execute.result
+    first_caused (g.S.Session.state c.args.conn.now) (g.S.Session.state c.execute.new.conn) has is_open (c.execute.ensures.obeyed is_open) c.args.key.now c.args.amount amounts absent c.requires.small c.execute.result
     (rw (c.first_row-text.ensures, c.ledger.ensures, c.first.ensures, c.second.ensures, c.integer.ensures) at (c.execute.ensures.runs clean))

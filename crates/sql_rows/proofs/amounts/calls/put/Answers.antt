@@ -1,5 +1,4 @@
 use Rattle.std.proofs.Common.{◌≡◌, None, arith, subst}
-use Rattle.sqlite.specs.Held.{state}
 use Rattle.sqlite.specs.State.{HasCleanDisk}
 use Rattle.sql_rows.specs.Amounts.{AreAmounts, amount_at}
 use Rattle.sql_rows.specs.Changes.{Raises}
@@ -12,9 +11,9 @@ use Rattle.sql_rows.proofs.amounts.calls.put.Goals as goal
 
 pub returns-in_ok-insert-clause-changed : goal.returns-in_ok-insert-clause-changed
 returns-in_ok-insert-clause-changed g c clean is_open has amounts fits =
-    let old = (state g.S.Store c.args.conn.now).now in
-    let s1 = state g.S.Store c.raise.new.conn in
-    let new = (state g.S.Store c.insert.new.conn).now in
+    let old = (g.S.Session.state c.args.conn.now).now in
+    let s1 = g.S.Session.state c.raise.new.conn in
+    let new = (g.S.Session.state c.insert.new.conn).now in
     let key = c.args.key.now in
     let clean1 : HasCleanDisk s1 = omega (arith, clean, c.in_ok-insert.ensures.write.later.clean) in
     let stays = c.in_ok-raise.ensures.write.ok clean1 is_open has in
@@ -24,9 +23,9 @@ returns-in_ok-insert-clause-changed g c clean is_open has amounts fits =
 
 pub returns-in_err-insert-clause-blame : goal.returns-in_err-insert-clause-blame
 returns-in_err-insert-clause-blame g c clean is_open has amounts fits =
-    let s0 = state g.S.Store c.args.conn.now in
-    let s1 = state g.S.Store c.raise.new.conn in
-    let s2 = state g.S.Store c.insert.new.conn in
+    let s0 = g.S.Session.state c.args.conn.now in
+    let s1 = g.S.Session.state c.raise.new.conn in
+    let s2 = g.S.Session.state c.insert.new.conn in
     let key = c.args.key.now in
     let e = c.in_err-insert.field-0.0 in
     on_error c.from_residual-in_err-insert.result e (ForCause s0 s2) c.from_residual-in_err-insert.ensures.1
@@ -40,22 +39,22 @@ pub returns-in_err-raise-clause-changed : goal.returns-in_err-raise-clause-chang
 returns-in_err-raise-clause-changed g c = λ clean is_open has amounts fits. none_done c.in_err-raise.field-0.0 c.from_residual.result c.from_residual.ensures.1 _
 
 pub returns-in_err-raise-clause-write : goal.returns-in_err-raise-clause-write
-returns-in_err-raise-clause-write g c = write_handed c.in_err-raise.field-0.0 c.from_residual.result c.from_residual.ensures.1 (state g.S.Store c.args.conn.now) (state g.S.Store c.raise.new.conn) c.in_err-raise.ensures.write
+returns-in_err-raise-clause-write g c = write_handed c.in_err-raise.field-0.0 c.from_residual.result c.from_residual.ensures.1 (g.S.Session.state c.args.conn.now) (g.S.Session.state c.raise.new.conn) c.in_err-raise.ensures.write
 
 pub returns-in_err-raise-clause-blame : goal.returns-in_err-raise-clause-blame
-returns-in_err-raise-clause-blame g c = λ clean is_open has amounts fits. on_error c.from_residual.result c.in_err-raise.field-0.0 (ForCause (state g.S.Store c.args.conn.now) (state g.S.Store c.raise.new.conn)) c.from_residual.ensures.1 (c.in_err-raise.ensures.blame clean is_open has amounts fits)
+returns-in_err-raise-clause-blame g c = λ clean is_open has amounts fits. on_error c.from_residual.result c.in_err-raise.field-0.0 (ForCause (g.S.Session.state c.args.conn.now) (g.S.Session.state c.raise.new.conn)) c.from_residual.ensures.1 (c.in_err-raise.ensures.blame clean is_open has amounts fits)
 
 pub returns-in_err-insert-clause-changed : goal.returns-in_err-insert-clause-changed
 returns-in_err-insert-clause-changed g c = λ clean is_open has amounts fits. none_done c.in_err-insert.field-0.0 c.from_residual-in_err-insert.result c.from_residual-in_err-insert.ensures.1 _
 
 pub returns-in_err-insert-clause-write : goal.returns-in_err-insert-clause-write
-returns-in_err-insert-clause-write g c = write_handed_then _ c.in_err-insert.field-0.0 c.from_residual-in_err-insert.result c.from_residual-in_err-insert.ensures.1 (state g.S.Store c.args.conn.now) (state g.S.Store c.raise.new.conn) (state g.S.Store c.insert.new.conn) c.in_ok-raise.ensures.write c.in_err-insert.ensures.write
+returns-in_err-insert-clause-write g c = write_handed_then _ c.in_err-insert.field-0.0 c.from_residual-in_err-insert.result c.from_residual-in_err-insert.ensures.1 (g.S.Session.state c.args.conn.now) (g.S.Session.state c.raise.new.conn) (g.S.Session.state c.insert.new.conn) c.in_ok-raise.ensures.write c.in_err-insert.ensures.write
 
 pub returns-in_ok-insert-clause-write : goal.returns-in_ok-insert-clause-write
-returns-in_ok-insert-clause-write g c = write_ok _ _ (state g.S.Store c.args.conn.now) (state g.S.Store c.insert.new.conn) (write_then _ _ (state g.S.Store c.args.conn.now) (state g.S.Store c.raise.new.conn) (state g.S.Store c.insert.new.conn) c.in_ok-raise.ensures.write c.in_ok-insert.ensures.write)
+returns-in_ok-insert-clause-write g c = write_ok _ _ (g.S.Session.state c.args.conn.now) (g.S.Session.state c.insert.new.conn) (write_then _ _ (g.S.Session.state c.args.conn.now) (g.S.Session.state c.raise.new.conn) (g.S.Session.state c.insert.new.conn) c.in_ok-raise.ensures.write c.in_ok-insert.ensures.write)
 
 pub returns-else-not-branch-clause-changed : goal.returns-else-not-branch-clause-changed
-returns-else-not-branch-clause-changed g c = λ clean is_open has amounts fits. subst (λ raised. Raises (state g.S.Store c.args.conn.now).now (state g.S.Store c.raise.new.conn).now c.args.key.now c.args.amount raised) c.if-not-branch.false (c.in_ok-raise.ensures.changed clean is_open has amounts fits)
+returns-else-not-branch-clause-changed g c = λ clean is_open has amounts fits. subst (λ raised. Raises (g.S.Session.state c.args.conn.now).now (g.S.Session.state c.raise.new.conn).now c.args.key.now c.args.amount raised) c.if-not-branch.false (c.in_ok-raise.ensures.changed clean is_open has amounts fits)
 
 pub returns-else-not-branch-clause-write : goal.returns-else-not-branch-clause-write
-returns-else-not-branch-clause-write g c = write_ok _ _ (state g.S.Store c.args.conn.now) (state g.S.Store c.raise.new.conn) c.in_ok-raise.ensures.write
+returns-else-not-branch-clause-write g c = write_ok _ _ (g.S.Session.state c.args.conn.now) (g.S.Session.state c.raise.new.conn) c.in_ok-raise.ensures.write

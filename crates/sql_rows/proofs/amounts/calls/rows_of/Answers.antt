@@ -1,5 +1,4 @@
 use Rattle.std.proofs.Common.{sym, ap, subst, ◌∙◌}
-use Rattle.sqlite.specs.Held.{state}
 use Rattle.sql_tables.specs.Statements.{IsQuery}
 use Rattle.sql_rows.specs.Keys.{ledger_of}
 use Rattle.sql_rows.specs.AmountStatements.{amount_text}
@@ -13,10 +12,10 @@ query-requires g c = record { query = subst IsQuery (sym (c.amount_of_key-text.e
 
 pub returns-clause-value : goal.returns-clause-value
 returns-clause-value g c clean is_open has amounts =
-    looked (state g.S.Store c.args.conn.now) (state g.S.Store c.query.new.conn) has amounts c.args.key.now c.query.result
+    looked (g.S.Session.state c.args.conn.now) (g.S.Session.state c.query.new.conn) has amounts c.args.key.now c.query.result
     (rw (c.amount_of_key-text.ensures, c.ledger.ensures, c.first.ensures, c.second.ensures) at (c.query.ensures.shown clean))
 
 pub returns-clause-blame : goal.returns-clause-blame
 returns-clause-blame g c clean is_open has =
-    look_caused (state g.S.Store c.args.conn.now) (state g.S.Store c.query.new.conn) has is_open c.args.key.now c.query.result
+    look_caused (g.S.Session.state c.args.conn.now) (g.S.Session.state c.query.new.conn) has is_open c.args.key.now c.query.result
     (rw (c.amount_of_key-text.ensures, c.ledger.ensures, c.first.ensures, c.second.ensures) at (c.query.ensures.fails clean))

@@ -1,5 +1,4 @@
 use Rattle.std.proofs.Common.{sym, subst}
-use Rattle.sqlite.specs.Held.{state}
 use Rattle.sql_rows.specs.Holdings.{ShowsNext}
 use Rattle.sql_tables.specs.Ends.{ForCause}
 use Rattle.sql_tables.proofs.ResultLemmas.{no_error}
@@ -8,12 +7,12 @@ use Rattle.sql_rows.proofs.amounts.holdings.next_holding.Goals as goal
 
 pub returns-clause-value : goal.returns-clause-value
 returns-clause-value g c clean is_open has amounts =
-    c.holding_shown.ensures.value (state g.S.Store c.args.conn.now).now c.args.account c.args.above
-    (subst (ShowsNext (state g.S.Store c.args.conn.now).now c.args.account c.args.above) (sym c.as_slice.ensures.value) (c.in_ok-rows.ensures.value clean is_open has amounts))
+    c.holding_shown.ensures.value (g.S.Session.state c.args.conn.now).now c.args.account c.args.above
+    (subst (ShowsNext (g.S.Session.state c.args.conn.now).now c.args.account c.args.above) (sym c.as_slice.ensures.value) (c.in_ok-rows.ensures.value clean is_open has amounts))
 
 pub returns-clause-blame : goal.returns-clause-blame
 returns-clause-blame g c clean is_open has amounts isins =
-    let old = state g.S.Store c.args.conn.now in
-    no_error c.holding_shown.result (ForCause old (state g.S.Store c.next_rows.new.conn))
+    let old = g.S.Session.state c.args.conn.now in
+    no_error c.holding_shown.result (ForCause old (g.S.Session.state c.next_rows.new.conn))
     (shown_reads old.now c.args.account c.args.above _ c.holding_shown.result isins c.holding_shown.ensures.none (λ isin quantity is. c.holding_shown.ensures.all isin quantity is)
     (subst (ShowsNext old.now c.args.account c.args.above) (sym c.as_slice.ensures.value) (c.in_ok-rows.ensures.value clean is_open has amounts)))

@@ -1,4 +1,3 @@
-use Rattle.sqlite.specs.Held.{state}
 use Rattle.sql_rows.proofs.AmountMeanings.{next_query}
 use Rattle.sql_rows.proofs.ClauseLemmas.{walked}
 use Rattle.std.proofs.Common.{unwrap_or, []}
@@ -10,10 +9,10 @@ query-requires g c = record { query = next_query }
 
 pub returns-clause-value : goal.returns-clause-value
 returns-clause-value g c clean is_open has amounts =
-    walked (state g.S.Store c.args.conn.now) (state g.S.Store c.query.new.conn) has amounts c.args.account c.args.above c.query.result
+    walked (g.S.Session.state c.args.conn.now) (g.S.Session.state c.query.new.conn) has amounts c.args.account c.args.above c.query.result
     (rw (c.as_bytes.ensures.bytes, c.bytes_of.ensures) at (c.query.ensures.shown clean))
 
 pub returns-clause-blame : goal.returns-clause-blame
 returns-clause-blame g c clean is_open has =
-    walk_caused (state g.S.Store c.args.conn.now) (state g.S.Store c.query.new.conn) has is_open c.args.account (unwrap_or c.args.above []) c.query.result
+    walk_caused (g.S.Session.state c.args.conn.now) (g.S.Session.state c.query.new.conn) has is_open c.args.account (unwrap_or c.args.above []) c.query.result
     (rw (c.as_bytes.ensures.bytes, c.bytes_of.ensures) at (c.query.ensures.fails clean))

@@ -1,7 +1,6 @@
 use Rattle.std.proofs.Common.{◌≡◌, ◌+◌, ◌∙◌, ap, sym, subst, arith}
 use Rattle.std.specs.List.{AllByRecursion}
 use Rattle.sqlite.specs.Effect.{Database}
-use Rattle.sqlite.specs.Held.{state}
 use Rattle.sqlite.specs.State.{HasCleanDisk}
 use Rattle.desk_rules.specs.Content.{Content}
 use Rattle.sql_tables.specs.Ends.{IsSame}
@@ -16,9 +15,9 @@ use Rattle.sql_rows.proofs.sent.compared.are_told.Goals as goal
 
 pub loop-before-preserved : goal.loop-before-preserved
 loop-before-preserved g c =
-    let s0 = state g.S.Store c.args.conn.now in
-    let s1 = state g.S.Store c.loop-before.conn in
-    let s2 = state g.S.Store c.is_told.new.conn in
+    let s0 = g.S.Session.state c.args.conn.now in
+    let s1 = g.S.Session.state c.loop-before.conn in
+    let s2 = g.S.Session.state c.is_told.new.conn in
     let v0 = g.R.Register.view c.args.register.now in
     let v1 = g.R.Register.view c.loop-before.register in
     let v2 = g.R.Register.view c.is_told.new.register in
@@ -42,7 +41,7 @@ loop-before-preserved g c =
 
 pub loop-before-init : goal.loop-before-init
 loop-before-init g c = record {
-  look = look_none tt (state g.S.Store c.args.conn.now);
+  look = look_none tt (g.S.Session.state c.args.conn.now);
   read = read_none (g.R.Register.view c.args.register.now);
   told = λ clean is_open has honest sure formed number some low. absurd (omega (arith, some, low));
 }
@@ -57,18 +56,18 @@ pub returns-in_err-is_told-clause-exact : goal.returns-in_err-is_told-clause-exa
 returns-in_err-is_told-clause-exact g c = λ clean is_open has honest sure. none_told c.in_err-is_told.field-0.0 c.from_residual.result c.from_residual.ensures.1 _
 
 pub returns-in_err-is_told-clause-look : goal.returns-in_err-is_told-clause-look
-returns-in_err-is_told-clause-look g c = look_later c.in_err-is_told.field-0.0 c.from_residual.result c.from_residual.ensures.1 (state g.S.Store c.args.conn.now) (state g.S.Store c.loop-before.conn) (state g.S.Store c.is_told.new.conn) c.loop-before.invariant.look c.in_err-is_told.ensures.look
+returns-in_err-is_told-clause-look g c = look_later c.in_err-is_told.field-0.0 c.from_residual.result c.from_residual.ensures.1 (g.S.Session.state c.args.conn.now) (g.S.Session.state c.loop-before.conn) (g.S.Session.state c.is_told.new.conn) c.loop-before.invariant.look c.in_err-is_told.ensures.look
 
 pub returns-in_err-is_told-clause-blame : goal.returns-in_err-is_told-clause-blame
-returns-in_err-is_told-clause-blame g c = cause_later c.in_err-is_told.field-0.0 c.from_residual.result c.from_residual.ensures.1 (state g.S.Store c.args.conn.now) (state g.S.Store c.loop-before.conn) (state g.S.Store c.is_told.new.conn) c.loop-before.invariant.look c.in_err-is_told.ensures.look.later c.in_err-is_told.ensures.blame
+returns-in_err-is_told-clause-blame g c = cause_later c.in_err-is_told.field-0.0 c.from_residual.result c.from_residual.ensures.1 (g.S.Session.state c.args.conn.now) (g.S.Session.state c.loop-before.conn) (g.S.Session.state c.is_told.new.conn) c.loop-before.invariant.look c.in_err-is_told.ensures.look.later c.in_err-is_told.ensures.blame
 
 pub returns-in_err-is_told-clause-read : goal.returns-in_err-is_told-clause-read
 returns-in_err-is_told-clause-read g c = read_later c.in_err-is_told.field-0.0 c.from_residual.result c.from_residual.ensures.1 (g.R.Register.view c.args.register.now) (g.R.Register.view c.loop-before.register) (g.R.Register.view c.is_told.new.register) c.loop-before.invariant.read c.in_err-is_told.ensures.read
 
 pub returns-then-not-branch-clause-exact : goal.returns-then-not-branch-clause-exact
 returns-then-not-branch-clause-exact g c = λ clean is_open has honest sure told.
-    let s0 = state g.S.Store c.args.conn.now in
-    let s1 = state g.S.Store c.loop-before.conn in
+    let s0 = g.S.Session.state c.args.conn.now in
+    let s1 = g.S.Session.state c.loop-before.conn in
     let v0 = g.R.Register.view c.args.register.now in
     let v1 = g.R.Register.view c.loop-before.register in
     let i = c.loop-before.invariant in
@@ -84,7 +83,7 @@ returns-then-not-branch-clause-exact g c = λ clean is_open has honest sure told
     sym c.if-not-branch.true ∙ e.exact clean same.is_open has1 honest (i.read.ok.sure honest1 sure) here
 
 pub returns-then-not-branch-clause-look : goal.returns-then-not-branch-clause-look
-returns-then-not-branch-clause-look g c = look_more tt (state g.S.Store c.args.conn.now) (state g.S.Store c.loop-before.conn) (state g.S.Store c.is_told.new.conn) c.loop-before.invariant.look c.in_ok-is_told.ensures.look
+returns-then-not-branch-clause-look g c = look_more tt (g.S.Session.state c.args.conn.now) (g.S.Session.state c.loop-before.conn) (g.S.Session.state c.is_told.new.conn) c.loop-before.invariant.look c.in_ok-is_told.ensures.look
 
 pub returns-then-not-branch-clause-read : goal.returns-then-not-branch-clause-read
 returns-then-not-branch-clause-read g c = read_more tt (g.R.Register.view c.args.register.now) (g.R.Register.view c.loop-before.register) (g.R.Register.view c.is_told.new.register) c.loop-before.invariant.read c.in_ok-is_told.ensures.read

@@ -1,6 +1,5 @@
 use Rattle.std.proofs.Common.{◌≡◌, ◌<◌, ◌^◌, ◌∙◌, IfOk, IsTrue, ap, sym, subst, length, arith}
 use Rattle.sqlite.specs.Effect.{Database}
-use Rattle.sqlite.specs.Held.{state}
 use Rattle.sqlite.specs.State.{HasCleanDisk}
 use Rattle.desk_rules.specs.Content.{Content}
 use Rattle.desk_register.specs.View.{HasRead}
@@ -20,8 +19,8 @@ use Rattle.sql_rows.proofs.sent.compared.has_sent.Goals as goal
 
 pub returns-clause-sent : goal.returns-clause-sent
 returns-clause-sent g c = λ clean is_open has honest sure order formed.
-    let s0 = state g.S.Store c.args.conn.now in
-    let s1 = state g.S.Store c.has_no_other.new.conn in
+    let s0 = g.S.Session.state c.args.conn.now in
+    let s1 = g.S.Session.state c.has_no_other.new.conn in
     let v0 = g.R.Register.view c.args.register.now in
     let v1 = g.R.Register.view c.sent_count.new.self in
     let n = c.in_ok-has_no_other.ensures in
@@ -44,15 +43,15 @@ returns-clause-sent g c = λ clean is_open has honest sure order formed.
 
 pub returns-then-not-branch-clause-exact : goal.returns-then-not-branch-clause-exact
 returns-then-not-branch-clause-exact g c = λ clean is_open has honest sure are.
-    let db = (state g.S.Store c.args.conn.now).now in
+    let db = (g.S.Session.state c.args.conn.now).now in
     let v0 = g.R.Register.view c.args.register.now in
     let is : c.in_ok-count.count ≡ length v0.content.sent = c.in_ok-count.ensures.value honest sure (idle_goes v0.stage c.requires.stage) in
     sym c.if-not-branch.true ∙ (c.in_ok-has_no_other.ensures.none clean is_open has).1 (subst (HasNoOther (db.trees 9)) (sym is) (no_other db v0.content.sent are))
 
 pub returns-clause-exact : goal.returns-clause-exact
 returns-clause-exact g c = λ clean is_open has honest sure.
-    let s0 = state g.S.Store c.args.conn.now in
-    let s1 = state g.S.Store c.has_no_other.new.conn in
+    let s0 = g.S.Session.state c.args.conn.now in
+    let s1 = g.S.Session.state c.has_no_other.new.conn in
     let v0 = g.R.Register.view c.args.register.now in
     let v1 = g.R.Register.view c.sent_count.new.self in
     let a = c.are_told.ensures in
@@ -74,16 +73,16 @@ pub returns-in_err-count-clause-exact : goal.returns-in_err-count-clause-exact
 returns-in_err-count-clause-exact g c = λ clean is_open has honest sure. none_told (Register c.in_err-count.field-0.0) c.from_residual.result c.from_residual.ensures.1 _
 
 pub returns-in_err-count-clause-look : goal.returns-in_err-count-clause-look
-returns-in_err-count-clause-look g c = look_unasked c.in_err-count.field-0.0 c.from_residual.result c.from_residual.ensures.1 (state g.S.Store c.args.conn.now) (state g.S.Store c.args.conn.now) (look_none tt (state g.S.Store c.args.conn.now))
+returns-in_err-count-clause-look g c = look_unasked c.in_err-count.field-0.0 c.from_residual.result c.from_residual.ensures.1 (g.S.Session.state c.args.conn.now) (g.S.Session.state c.args.conn.now) (look_none tt (g.S.Session.state c.args.conn.now))
 
 pub returns-in_err-count-clause-blame : goal.returns-in_err-count-clause-blame
-returns-in_err-count-clause-blame g c = λ clean is_open has. cause_unasked c.in_err-count.field-0.0 c.from_residual.result c.from_residual.ensures.1 (state g.S.Store c.args.conn.now) (state g.S.Store c.args.conn.now)
+returns-in_err-count-clause-blame g c = λ clean is_open has. cause_unasked c.in_err-count.field-0.0 c.from_residual.result c.from_residual.ensures.1 (g.S.Session.state c.args.conn.now) (g.S.Session.state c.args.conn.now)
 
 pub returns-in_err-count-clause-read : goal.returns-in_err-count-clause-read
 returns-in_err-count-clause-read g c = read_fault c.in_err-count.field-0.0 c.from_residual.result c.from_residual.ensures.1 (g.R.Register.view c.args.register.now) (g.R.Register.view c.sent_count.new.self) c.in_err-count.ensures.read
 
 pub returns-then-count-gt-MOST-clause-look : goal.returns-then-count-gt-MOST-clause-look
-returns-then-count-gt-MOST-clause-look g c = look_none tt (state g.S.Store c.args.conn.now)
+returns-then-count-gt-MOST-clause-look g c = look_none tt (g.S.Session.state c.args.conn.now)
 
 pub returns-then-count-gt-MOST-clause-read : goal.returns-then-count-gt-MOST-clause-read
 returns-then-count-gt-MOST-clause-read g c = read_one c.in_ok-count.count (g.R.Register.view c.args.register.now) (g.R.Register.view c.sent_count.new.self) c.in_ok-count.ensures.read
@@ -95,16 +94,16 @@ pub returns-in_err-has_no_other-clause-exact : goal.returns-in_err-has_no_other-
 returns-in_err-has_no_other-clause-exact g c = λ clean is_open has honest sure. none_told (Tables c.in_err-has_no_other.field-0.0) c.from_residual-in_err-has_no_other.result c.from_residual-in_err-has_no_other.ensures.1 _
 
 pub returns-in_err-has_no_other-clause-look : goal.returns-in_err-has_no_other-clause-look
-returns-in_err-has_no_other-clause-look g c = look_error c.in_err-has_no_other.field-0.0 c.from_residual-in_err-has_no_other.result c.from_residual-in_err-has_no_other.ensures.1 (state g.S.Store c.args.conn.now) (state g.S.Store c.has_no_other.new.conn) c.in_err-has_no_other.ensures.look
+returns-in_err-has_no_other-clause-look g c = look_error c.in_err-has_no_other.field-0.0 c.from_residual-in_err-has_no_other.result c.from_residual-in_err-has_no_other.ensures.1 (g.S.Session.state c.args.conn.now) (g.S.Session.state c.has_no_other.new.conn) c.in_err-has_no_other.ensures.look
 
 pub returns-in_err-has_no_other-clause-blame : goal.returns-in_err-has_no_other-clause-blame
-returns-in_err-has_no_other-clause-blame g c = λ clean is_open has. cause_error c.in_err-has_no_other.field-0.0 c.from_residual-in_err-has_no_other.result c.from_residual-in_err-has_no_other.ensures.1 (state g.S.Store c.args.conn.now) (state g.S.Store c.has_no_other.new.conn) (c.in_err-has_no_other.ensures.blame clean is_open has)
+returns-in_err-has_no_other-clause-blame g c = λ clean is_open has. cause_error c.in_err-has_no_other.field-0.0 c.from_residual-in_err-has_no_other.result c.from_residual-in_err-has_no_other.ensures.1 (g.S.Session.state c.args.conn.now) (g.S.Session.state c.has_no_other.new.conn) (c.in_err-has_no_other.ensures.blame clean is_open has)
 
 pub returns-in_err-has_no_other-clause-read : goal.returns-in_err-has_no_other-clause-read
 returns-in_err-has_no_other-clause-read g c = read_still c.in_err-has_no_other.field-0.0 c.from_residual-in_err-has_no_other.result c.from_residual-in_err-has_no_other.ensures.1 (g.R.Register.view c.args.register.now) (g.R.Register.view c.sent_count.new.self) (read_one c.in_ok-count.count (g.R.Register.view c.args.register.now) (g.R.Register.view c.sent_count.new.self) c.in_ok-count.ensures.read)
 
 pub returns-then-not-branch-clause-look : goal.returns-then-not-branch-clause-look
-returns-then-not-branch-clause-look g c = look_ok _ tt (state g.S.Store c.args.conn.now) (state g.S.Store c.has_no_other.new.conn) c.in_ok-has_no_other.ensures.look
+returns-then-not-branch-clause-look g c = look_ok _ tt (g.S.Session.state c.args.conn.now) (g.S.Session.state c.has_no_other.new.conn) c.in_ok-has_no_other.ensures.look
 
 pub returns-then-not-branch-clause-read : goal.returns-then-not-branch-clause-read
 returns-then-not-branch-clause-read g c = read_one c.in_ok-count.count (g.R.Register.view c.args.register.now) (g.R.Register.view c.sent_count.new.self) c.in_ok-count.ensures.read
@@ -114,17 +113,17 @@ are_told-requires-clause-stage g c = read_idle (g.R.Register.view c.args.registe
 
 pub returns-clause-look : goal.returns-clause-look
 returns-clause-look g c =
-    let s0 = state g.S.Store c.args.conn.now in
-    let s1 = state g.S.Store c.has_no_other.new.conn in
+    let s0 = g.S.Session.state c.args.conn.now in
+    let s1 = g.S.Session.state c.has_no_other.new.conn in
     let looked : HasLooked s0 s1 = look_ok _ tt s0 s1 c.in_ok-has_no_other.ensures.look in
-    look_then tt (of_tables c.are_told.result) s0 s1 (state g.S.Store c.are_told.new.conn) looked c.are_told.ensures.look
+    look_then tt (of_tables c.are_told.result) s0 s1 (g.S.Session.state c.are_told.new.conn) looked c.are_told.ensures.look
 
 pub returns-clause-blame : goal.returns-clause-blame
 returns-clause-blame g c =
-    let s0 = state g.S.Store c.args.conn.now in
-    let s1 = state g.S.Store c.has_no_other.new.conn in
+    let s0 = g.S.Session.state c.args.conn.now in
+    let s1 = g.S.Session.state c.has_no_other.new.conn in
     let looked : HasLooked s0 s1 = look_ok _ tt s0 s1 c.in_ok-has_no_other.ensures.look in
-    cause_after (of_tables c.are_told.result) s0 s1 (state g.S.Store c.are_told.new.conn) looked c.are_told.ensures.look.later c.are_told.ensures.blame
+    cause_after (of_tables c.are_told.result) s0 s1 (g.S.Session.state c.are_told.new.conn) looked c.are_told.ensures.look.later c.are_told.ensures.blame
 
 pub returns-clause-read : goal.returns-clause-read
 returns-clause-read g c =

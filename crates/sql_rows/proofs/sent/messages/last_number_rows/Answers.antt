@@ -1,4 +1,3 @@
-use Rattle.sqlite.specs.Held.{state}
 use Rattle.sql_rows.proofs.SentMeanings.{number_query}
 use Rattle.sql_tables.proofs.ResultLemmas.{on_value}
 use Rattle.sql_rows.proofs.MessageLemmas.{numbers_shown}
@@ -10,9 +9,9 @@ query-requires g c = record { query = number_query }
 
 pub returns-clause-shown : goal.returns-clause-shown
 returns-clause-shown g c clean is_open has messages are =
-    on_value c.query.result (λ rows. numbers_shown (state g.S.Store c.args.conn.now) (state g.S.Store c.query.new.conn) has messages are rows.items) (c.query.ensures.shown clean)
+    on_value c.query.result (λ rows. numbers_shown (g.S.Session.state c.args.conn.now) (g.S.Session.state c.query.new.conn) has messages are rows.items) (c.query.ensures.shown clean)
 
 pub returns-clause-blame : goal.returns-clause-blame
 returns-clause-blame g c clean is_open has =
-    numbers_caused (state g.S.Store c.args.conn.now) (state g.S.Store c.query.new.conn) has is_open c.query.result
+    numbers_caused (g.S.Session.state c.args.conn.now) (g.S.Session.state c.query.new.conn) has is_open c.query.result
     (c.query.ensures.fails clean)

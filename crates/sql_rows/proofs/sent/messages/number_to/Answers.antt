@@ -1,5 +1,4 @@
 use Rattle.std.proofs.Common.{◌≡◌, not, unwrap_or, sym, ap, ◌∙◌, arith}
-use Rattle.sqlite.specs.Held.{state}
 use Rattle.desk_rules.specs.Questions.{sent_at}
 use Rattle.sql_tables.specs.Ends.{ForCause}
 use Rattle.sql_tables.proofs.EndLemmas.{cause_onward}
@@ -11,13 +10,13 @@ use Rattle.sql_rows.proofs.SentWalkLemmas.{none_more, none_passed, one_more_pass
 use Rattle.sql_rows.proofs.sent.messages.number_to.Goals as goal
 
 pub loop-passed-init : goal.loop-passed-init
-loop-passed-init g c = record { look = look_none tt (state g.S.Store c.args.conn.now); walked = λ clean is_open has messages are. none_passed messages c.args.bic }
+loop-passed-init g c = record { look = look_none tt (g.S.Session.state c.args.conn.now); walked = λ clean is_open has messages are. none_passed messages c.args.bic }
 
 pub loop-passed-preserved : goal.loop-passed-preserved
 loop-passed-preserved g c =
-    let s0 = state g.S.Store c.args.conn.now in
-    let s1 = state g.S.Store c.loop-passed.conn in
-    let s2 = state g.S.Store c.next_to.new.conn in
+    let s0 = g.S.Session.state c.args.conn.now in
+    let s1 = g.S.Session.state c.loop-passed.conn in
+    let s2 = g.S.Session.state c.next_to.new.conn in
     let i = c.loop-passed.invariant in
     let e = c.in_ok-last.ensures in
     let number = unwrap_or c.loop-passed.last 0 in
@@ -31,9 +30,9 @@ loop-passed-preserved g c =
 
 pub returns-then-is_none-clause-value : goal.returns-then-is_none-clause-value
 returns-then-is_none-clause-value g c clean is_open has messages are =
-    let s0 = state g.S.Store c.args.conn.now in
-    let s1 = state g.S.Store c.loop-passed.conn in
-    let s2 = state g.S.Store c.next_to.new.conn in
+    let s0 = g.S.Session.state c.args.conn.now in
+    let s1 = g.S.Session.state c.loop-passed.conn in
+    let s2 = g.S.Session.state c.next_to.new.conn in
     let i = c.loop-passed.invariant in
     let e = c.in_ok-last.ensures in
     let number = unwrap_or c.loop-passed.last 0 in
@@ -43,20 +42,20 @@ returns-then-is_none-clause-value g c clean is_open has messages are =
 
 pub returns-then-is_none-clause-look : goal.returns-then-is_none-clause-look
 returns-then-is_none-clause-look g c =
-    let s0 = state g.S.Store c.args.conn.now in
-    let s2 = state g.S.Store c.next_to.new.conn in
-    look_ok _ _ s0 s2 (look_more _ s0 (state g.S.Store c.loop-passed.conn) s2 c.loop-passed.invariant.look c.in_ok-last.ensures.look)
+    let s0 = g.S.Session.state c.args.conn.now in
+    let s2 = g.S.Session.state c.next_to.new.conn in
+    look_ok _ _ s0 s2 (look_more _ s0 (g.S.Session.state c.loop-passed.conn) s2 c.loop-passed.invariant.look c.in_ok-last.ensures.look)
 
 pub returns-in_err-last-clause-look : goal.returns-in_err-last-clause-look
 returns-in_err-last-clause-look g c =
     look_failed c.in_err-last.field-0.0 c.from_residual.result c.from_residual.ensures.1
-    (state g.S.Store c.args.conn.now) (state g.S.Store c.loop-passed.conn) (state g.S.Store c.next_to.new.conn) c.loop-passed.invariant.look c.in_err-last.ensures.look
+    (g.S.Session.state c.args.conn.now) (g.S.Session.state c.loop-passed.conn) (g.S.Session.state c.next_to.new.conn) c.loop-passed.invariant.look c.in_err-last.ensures.look
 
 pub returns-in_err-last-clause-blame : goal.returns-in_err-last-clause-blame
 returns-in_err-last-clause-blame g c clean is_open has messages are =
-    let s0 = state g.S.Store c.args.conn.now in
-    let s1 = state g.S.Store c.loop-passed.conn in
-    let s2 = state g.S.Store c.next_to.new.conn in
+    let s0 = g.S.Session.state c.args.conn.now in
+    let s1 = g.S.Session.state c.loop-passed.conn in
+    let s2 = g.S.Session.state c.next_to.new.conn in
     let i = c.loop-passed.invariant in
     let e = c.in_err-last.ensures in
     let fault = c.in_err-last.field-0.0 in
@@ -70,4 +69,4 @@ returns-clause-value g c clean is_open has messages are =
     (c.loop-passed.invariant.walked clean is_open has messages are).message ∙ ap (sent_at (sent_to messages c.args.bic)) all
 
 pub returns-clause-look : goal.returns-clause-look
-returns-clause-look g c = look_ok _ _ (state g.S.Store c.args.conn.now) (state g.S.Store c.loop-passed.conn) c.loop-passed.invariant.look
+returns-clause-look g c = look_ok _ _ (g.S.Session.state c.args.conn.now) (g.S.Session.state c.loop-passed.conn) c.loop-passed.invariant.look

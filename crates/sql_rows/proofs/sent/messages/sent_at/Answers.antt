@@ -1,5 +1,4 @@
 use Rattle.std.proofs.Common.{◌≡◌, IfSome, unwrap_or, sym, ap, subst, ◌∙◌, arith}
-use Rattle.sqlite.specs.Held.{state}
 use Rattle.sqlite.specs.State.{HasCleanDisk}
 use Rattle.desk_rules.specs.Questions.{sent_at}
 use Rattle.sql_tables.proofs.LookLemmas.{look_then}
@@ -9,13 +8,13 @@ use Rattle.sql_rows.proofs.sent.messages.sent_at.Goals as goal
 
 pub returns-clause-look : goal.returns-clause-look
 returns-clause-look g c =
-    look_then c.in_ok-number.field-0 c.message_numbered.result (state g.S.Store c.args.conn.now) (state g.S.Store c.number_to.new.conn) (state g.S.Store c.message_numbered.new.conn) c.in_ok-number.ensures.look c.message_numbered.ensures.look
+    look_then c.in_ok-number.field-0 c.message_numbered.result (g.S.Session.state c.args.conn.now) (g.S.Session.state c.number_to.new.conn) (g.S.Session.state c.message_numbered.new.conn) c.in_ok-number.ensures.look c.message_numbered.ensures.look
 
 pub returns-clause-blame : goal.returns-clause-blame
 returns-clause-blame g c clean is_open has messages are sendable =
-    let s0 = state g.S.Store c.args.conn.now in
-    let s1 = state g.S.Store c.number_to.new.conn in
-    let s2 = state g.S.Store c.message_numbered.new.conn in
+    let s0 = g.S.Session.state c.args.conn.now in
+    let s1 = g.S.Session.state c.number_to.new.conn in
+    let s2 = g.S.Session.state c.message_numbered.new.conn in
     let walk = c.in_ok-number.ensures in
     let found = c.message_numbered.ensures in
     let clean1 : HasCleanDisk s1 = omega (arith, clean, found.look.later.clean) in

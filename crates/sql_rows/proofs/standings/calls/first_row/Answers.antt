@@ -1,4 +1,3 @@
-use Rattle.sqlite.specs.Held.{state}
 use Rattle.sql_rows.proofs.StandingMeanings.{finds_next}
 use Rattle.sql_rows.proofs.StandingCalls.{next_shown}
 use Rattle.sql_rows.proofs.StandingCauses.{next_caused}
@@ -9,8 +8,8 @@ query-requires g c = record { query = finds_next }
 
 pub returns-clause-shown : goal.returns-clause-shown
 returns-clause-shown g c clean is_open has were =
-    next_shown (state g.S.Store c.args.conn.now) (state g.S.Store c.query.new.conn) c.args.after has were c.query.result (rw c.integer.ensures at (c.query.ensures.shown clean))
+    next_shown (g.S.Session.state c.args.conn.now) (g.S.Session.state c.query.new.conn) c.args.after has were c.query.result (rw c.integer.ensures at (c.query.ensures.shown clean))
 
 pub returns-clause-blame : goal.returns-clause-blame
 returns-clause-blame g c clean is_open has =
-    next_caused (state g.S.Store c.args.conn.now) (state g.S.Store c.query.new.conn) has is_open c.args.after c.query.result (rw c.integer.ensures at (c.query.ensures.fails clean))
+    next_caused (g.S.Session.state c.args.conn.now) (g.S.Session.state c.query.new.conn) has is_open c.args.after c.query.result (rw c.integer.ensures at (c.query.ensures.fails clean))

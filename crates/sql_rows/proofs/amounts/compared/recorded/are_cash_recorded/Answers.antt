@@ -1,5 +1,4 @@
 use Rattle.std.proofs.Common.{ℕ, ◌<◌, get_or, slice_index_or, sym, ◌∙◌, arith}
-use Rattle.sqlite.specs.Held.{state}
 use Rattle.desk_codes.specs.declared.currency.Ccy.{Ccy}
 use Rattle.desk_codes.specs.declared.currency.Ccy.TheVariants.{Chf}
 use Rattle.desk_codes.specs.declared.currency.TheConstants.{CURRENCIES}
@@ -15,13 +14,13 @@ use Rattle.sql_rows.proofs.amounts.compared.recorded.are_cash_recorded.Goals as 
 pub returns-in_err-is_recorded-clause-look : goal.returns-in_err-is_recorded-clause-look
 returns-in_err-is_recorded-clause-look g c =
     look_failed c.in_err-is_recorded.field-0.0 c.from_residual.result c.from_residual.ensures.1
-    (state g.S.Store c.args.conn.now) (state g.S.Store c.loop-ccy.conn) (state g.S.Store c.is_recorded.new.conn) c.loop-ccy.invariant.look c.in_err-is_recorded.ensures.look
+    (g.S.Session.state c.args.conn.now) (g.S.Session.state c.loop-ccy.conn) (g.S.Session.state c.is_recorded.new.conn) c.loop-ccy.invariant.look c.in_err-is_recorded.ensures.look
 
 pub loop-ccy-preserved : goal.loop-ccy-preserved
 loop-ccy-preserved g c =
-    let s0 = state g.S.Store c.args.conn.now in
-    let s1 = state g.S.Store c.loop-ccy.conn in
-    let s2 = state g.S.Store c.is_recorded.new.conn in
+    let s0 = g.S.Session.state c.args.conn.now in
+    let s1 = g.S.Session.state c.loop-ccy.conn in
+    let s2 = g.S.Session.state c.is_recorded.new.conn in
     let v0 = g.R.Register.view c.args.register.now in
     let v1 = g.R.Register.view c.loop-ccy.register in
     let v2 = g.R.Register.view c.is_recorded.new.register in
@@ -45,13 +44,13 @@ pub returns-then-not-branch-clause-exact : goal.returns-then-not-branch-clause-e
 returns-then-not-branch-clause-exact g c = λ clean is_open has honest sure all.
     let i = c.loop-ccy.invariant in
     let so = c.in_ok-is_recorded.ensures in
-    sym c.if-not-branch.true ∙ found_so (state g.S.Store c.args.conn.now) (state g.S.Store c.loop-ccy.conn) (state g.S.Store c.is_recorded.new.conn)
+    sym c.if-not-branch.true ∙ found_so (g.S.Session.state c.args.conn.now) (g.S.Session.state c.loop-ccy.conn) (g.S.Session.state c.is_recorded.new.conn)
     (g.R.Register.view c.args.register.now) (g.R.Register.view c.loop-ccy.register) (g.R.Register.view c.is_recorded.new.register)
     i.look i.read so.look.later so.read.later SaysAll so.exact clean is_open has honest sure all
 
 pub loop-ccy-init : goal.loop-ccy-init
 loop-ccy-init g c = record {
-  look = look_none tt (state g.S.Store c.args.conn.now);
+  look = look_none tt (g.S.Session.state c.args.conn.now);
   read = read_none (g.R.Register.view c.args.register.now);
   said = λ clean is_open has honest sure amounts k d low. absurd (omega (arith, low));
 }
@@ -66,13 +65,13 @@ pub returns-in_err-is_recorded-clause-exact : goal.returns-in_err-is_recorded-cl
 returns-in_err-is_recorded-clause-exact g c = λ clean is_open has honest sure all. none_told c.in_err-is_recorded.field-0.0 c.from_residual.result c.from_residual.ensures.1 _
 
 pub returns-in_err-is_recorded-clause-blame : goal.returns-in_err-is_recorded-clause-blame
-returns-in_err-is_recorded-clause-blame g c = cause_later_so AreAmounts c.in_err-is_recorded.field-0.0 c.from_residual.result c.from_residual.ensures.1 (state g.S.Store c.args.conn.now) (state g.S.Store c.loop-ccy.conn) (state g.S.Store c.is_recorded.new.conn) c.loop-ccy.invariant.look c.in_err-is_recorded.ensures.look.later c.in_err-is_recorded.ensures.blame
+returns-in_err-is_recorded-clause-blame g c = cause_later_so AreAmounts c.in_err-is_recorded.field-0.0 c.from_residual.result c.from_residual.ensures.1 (g.S.Session.state c.args.conn.now) (g.S.Session.state c.loop-ccy.conn) (g.S.Session.state c.is_recorded.new.conn) c.loop-ccy.invariant.look c.in_err-is_recorded.ensures.look.later c.in_err-is_recorded.ensures.blame
 
 pub returns-in_err-is_recorded-clause-read : goal.returns-in_err-is_recorded-clause-read
 returns-in_err-is_recorded-clause-read g c = read_failed c.in_err-is_recorded.field-0.0 c.from_residual.result c.from_residual.ensures.1 (g.R.Register.view c.args.register.now) (g.R.Register.view c.loop-ccy.register) (g.R.Register.view c.is_recorded.new.register) c.loop-ccy.invariant.read c.in_err-is_recorded.ensures.read
 
 pub returns-then-not-branch-clause-look : goal.returns-then-not-branch-clause-look
-returns-then-not-branch-clause-look g c = look_more tt (state g.S.Store c.args.conn.now) (state g.S.Store c.loop-ccy.conn) (state g.S.Store c.is_recorded.new.conn) c.loop-ccy.invariant.look c.in_ok-is_recorded.ensures.look
+returns-then-not-branch-clause-look g c = look_more tt (g.S.Session.state c.args.conn.now) (g.S.Session.state c.loop-ccy.conn) (g.S.Session.state c.is_recorded.new.conn) c.loop-ccy.invariant.look c.in_ok-is_recorded.ensures.look
 
 pub returns-then-not-branch-clause-read : goal.returns-then-not-branch-clause-read
 returns-then-not-branch-clause-read g c = read_more tt (g.R.Register.view c.args.register.now) (g.R.Register.view c.loop-ccy.register) (g.R.Register.view c.is_recorded.new.register) c.loop-ccy.invariant.read c.in_ok-is_recorded.ensures.read

@@ -1,5 +1,4 @@
 use Rattle.std.proofs.Common.{◌≡◌, ◌+◌, ◌≤◌, length, IsTrue, sym, ◌∙◌, arith}
-use Rattle.sqlite.specs.Held.{state}
 use Rattle.desk_rules.specs.Content.{history_of}
 use Rattle.desk_register.proofs.ViewLemmas.{idle_goes}
 use Rattle.desk_register.proofs.ReadLemmas.{read_idle, read_more, read_one}
@@ -17,13 +16,13 @@ returns-then-not-branch-clause-exact g c = λ clean is_open has honest sure all.
     let i = c.loop-before.invariant in
     let so = c.in_ok-is_number_recorded.ensures in
     let counted = as_many v0.content c.in_ok-count.count (i.counted (so.read.later.honest honest) sure) in
-    sym c.if-not-branch.true ∙ moved (state g.S.Store c.args.conn.now) (state g.S.Store c.loop-before.conn) (state g.S.Store c.is_number_recorded.new.conn)
+    sym c.if-not-branch.true ∙ moved (g.S.Session.state c.args.conn.now) (g.S.Session.state c.loop-before.conn) (g.S.Session.state c.is_number_recorded.new.conn)
     v0 (g.R.Register.view c.loop-before.register) (g.R.Register.view c.is_number_recorded.new.register) so.look.later so.read.later
     (λ db content. SaysAll db content → length (history_of content) ≤ c.in_ok-count.count → IsTrue c.in_ok-is_number_recorded.field-0) i.look i.read so.exact clean is_open has honest sure all counted
 
 pub loop-before-init : goal.loop-before-init
 loop-before-init g c =
-    let s0 = state g.S.Store c.args.conn.now in
+    let s0 = g.S.Session.state c.args.conn.now in
     let v0 = g.R.Register.view c.args.register.now in
     let counted = c.in_ok-count.ensures in
     record {
@@ -43,10 +42,10 @@ pub returns-in_err-count-clause-exact : goal.returns-in_err-count-clause-exact
 returns-in_err-count-clause-exact g c = λ clean is_open has honest sure all. none_told (Register c.in_err-count.field-0.0) c.from_residual.result c.from_residual.ensures.1 _
 
 pub returns-in_err-count-clause-look : goal.returns-in_err-count-clause-look
-returns-in_err-count-clause-look g c = look_unasked c.in_err-count.field-0.0 c.from_residual.result c.from_residual.ensures.1 (state g.S.Store c.args.conn.now) (state g.S.Store c.args.conn.now) (look_none tt (state g.S.Store c.args.conn.now))
+returns-in_err-count-clause-look g c = look_unasked c.in_err-count.field-0.0 c.from_residual.result c.from_residual.ensures.1 (g.S.Session.state c.args.conn.now) (g.S.Session.state c.args.conn.now) (look_none tt (g.S.Session.state c.args.conn.now))
 
 pub returns-in_err-count-clause-blame : goal.returns-in_err-count-clause-blame
-returns-in_err-count-clause-blame g c = λ clean is_open has amounts. cause_unasked c.in_err-count.field-0.0 c.from_residual.result c.from_residual.ensures.1 (state g.S.Store c.args.conn.now) (state g.S.Store c.args.conn.now)
+returns-in_err-count-clause-blame g c = λ clean is_open has amounts. cause_unasked c.in_err-count.field-0.0 c.from_residual.result c.from_residual.ensures.1 (g.S.Session.state c.args.conn.now) (g.S.Session.state c.args.conn.now)
 
 pub returns-in_err-count-clause-read : goal.returns-in_err-count-clause-read
 returns-in_err-count-clause-read g c = read_fault c.in_err-count.field-0.0 c.from_residual.result c.from_residual.ensures.1 (g.R.Register.view c.args.register.now) (g.R.Register.view c.count.new.self) c.in_err-count.ensures.read
@@ -58,25 +57,25 @@ pub returns-in_err-is_number_recorded-clause-exact : goal.returns-in_err-is_numb
 returns-in_err-is_number_recorded-clause-exact g c = λ clean is_open has honest sure all. none_told c.in_err-is_number_recorded.field-0.0 c.from_residual-in_err-is_number_recorded.result c.from_residual-in_err-is_number_recorded.ensures.1 _
 
 pub returns-in_err-is_number_recorded-clause-look : goal.returns-in_err-is_number_recorded-clause-look
-returns-in_err-is_number_recorded-clause-look g c = look_failed c.in_err-is_number_recorded.field-0.0 c.from_residual-in_err-is_number_recorded.result c.from_residual-in_err-is_number_recorded.ensures.1 (state g.S.Store c.args.conn.now) (state g.S.Store c.loop-before.conn) (state g.S.Store c.is_number_recorded.new.conn) c.loop-before.invariant.look c.in_err-is_number_recorded.ensures.look
+returns-in_err-is_number_recorded-clause-look g c = look_failed c.in_err-is_number_recorded.field-0.0 c.from_residual-in_err-is_number_recorded.result c.from_residual-in_err-is_number_recorded.ensures.1 (g.S.Session.state c.args.conn.now) (g.S.Session.state c.loop-before.conn) (g.S.Session.state c.is_number_recorded.new.conn) c.loop-before.invariant.look c.in_err-is_number_recorded.ensures.look
 
 pub returns-in_err-is_number_recorded-clause-blame : goal.returns-in_err-is_number_recorded-clause-blame
-returns-in_err-is_number_recorded-clause-blame g c = cause_later_so AreAmounts c.in_err-is_number_recorded.field-0.0 c.from_residual-in_err-is_number_recorded.result c.from_residual-in_err-is_number_recorded.ensures.1 (state g.S.Store c.args.conn.now) (state g.S.Store c.loop-before.conn) (state g.S.Store c.is_number_recorded.new.conn) c.loop-before.invariant.look c.in_err-is_number_recorded.ensures.look.later c.in_err-is_number_recorded.ensures.blame
+returns-in_err-is_number_recorded-clause-blame g c = cause_later_so AreAmounts c.in_err-is_number_recorded.field-0.0 c.from_residual-in_err-is_number_recorded.result c.from_residual-in_err-is_number_recorded.ensures.1 (g.S.Session.state c.args.conn.now) (g.S.Session.state c.loop-before.conn) (g.S.Session.state c.is_number_recorded.new.conn) c.loop-before.invariant.look c.in_err-is_number_recorded.ensures.look.later c.in_err-is_number_recorded.ensures.blame
 
 pub returns-in_err-is_number_recorded-clause-read : goal.returns-in_err-is_number_recorded-clause-read
 returns-in_err-is_number_recorded-clause-read g c = read_failed c.in_err-is_number_recorded.field-0.0 c.from_residual-in_err-is_number_recorded.result c.from_residual-in_err-is_number_recorded.ensures.1 (g.R.Register.view c.args.register.now) (g.R.Register.view c.loop-before.register) (g.R.Register.view c.is_number_recorded.new.register) c.loop-before.invariant.read c.in_err-is_number_recorded.ensures.read
 
 pub returns-then-not-branch-clause-look : goal.returns-then-not-branch-clause-look
-returns-then-not-branch-clause-look g c = look_more tt (state g.S.Store c.args.conn.now) (state g.S.Store c.loop-before.conn) (state g.S.Store c.is_number_recorded.new.conn) c.loop-before.invariant.look c.in_ok-is_number_recorded.ensures.look
+returns-then-not-branch-clause-look g c = look_more tt (g.S.Session.state c.args.conn.now) (g.S.Session.state c.loop-before.conn) (g.S.Session.state c.is_number_recorded.new.conn) c.loop-before.invariant.look c.in_ok-is_number_recorded.ensures.look
 
 pub returns-then-not-branch-clause-read : goal.returns-then-not-branch-clause-read
 returns-then-not-branch-clause-read g c = read_more tt (g.R.Register.view c.args.register.now) (g.R.Register.view c.loop-before.register) (g.R.Register.view c.is_number_recorded.new.register) c.loop-before.invariant.read c.in_ok-is_number_recorded.ensures.read
 
 pub loop-before-preserved : goal.loop-before-preserved
 loop-before-preserved g c =
-    let s0 = state g.S.Store c.args.conn.now in
-    let s1 = state g.S.Store c.loop-before.conn in
-    let s2 = state g.S.Store c.is_number_recorded.new.conn in
+    let s0 = g.S.Session.state c.args.conn.now in
+    let s1 = g.S.Session.state c.loop-before.conn in
+    let s2 = g.S.Session.state c.is_number_recorded.new.conn in
     let v0 = g.R.Register.view c.args.register.now in
     let v1 = g.R.Register.view c.loop-before.register in
     let v2 = g.R.Register.view c.is_number_recorded.new.register in
@@ -101,4 +100,4 @@ returns-clause-says g c = λ clean is_open has honest sure amounts yes.
     let i = c.loop-before.invariant in
     let counted = i.counted honest sure in
     let last : c.loop-before.before ≡ length v0.content.register = omega (arith, counted) in
-    all_first (state g.S.Store c.args.conn.now).now v0.content c.loop-before.before last (i.said clean is_open has honest sure amounts)
+    all_first (g.S.Session.state c.args.conn.now).now v0.content c.loop-before.before last (i.said clean is_open has honest sure amounts)

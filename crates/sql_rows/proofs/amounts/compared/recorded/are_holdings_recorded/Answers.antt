@@ -1,5 +1,4 @@
 use Rattle.std.proofs.Common.{None, Some, subst, sym, ◌∙◌, arith}
-use Rattle.sqlite.specs.Held.{state}
 use Rattle.desk_rules.specs.Content.{Content, history_of}
 use Rattle.desk_register.specs.Looked.{IsHoldingAfter}
 use Rattle.desk_register.proofs.ViewLemmas.{idle_goes}
@@ -17,10 +16,10 @@ use Rattle.sql_rows.proofs.amounts.compared.recorded.are_holdings_recorded.Goals
 
 pub loop-told-init : goal.loop-told-init
 loop-told-init g c =
-    let db = (state g.S.Store c.args.conn.now).now in
+    let db = (g.S.Session.state c.args.conn.now).now in
     let content = (g.R.Register.view c.args.register.now).content in
     record {
-      look = look_none tt (state g.S.Store c.args.conn.now);
+      look = look_none tt (g.S.Session.state c.args.conn.now);
       read = read_none (g.R.Register.view c.args.register.now);
       said = λ clean is_open has honest sure amounts. none_yet db content c.args.account;
       few = λ honest sure known. (let most = left_most (history_of content) None in omega (arith, most));
@@ -29,7 +28,7 @@ loop-told-init g c =
 pub returns-in_err-is_recorded-clause-look : goal.returns-in_err-is_recorded-clause-look
 returns-in_err-is_recorded-clause-look g c =
     look_failed c.in_err-is_recorded.field-0.0 c.from_residual-in_err-is_recorded.result c.from_residual-in_err-is_recorded.ensures.1
-    (state g.S.Store c.args.conn.now) (state g.S.Store c.loop-told.conn) (state g.S.Store c.is_recorded.new.conn) c.loop-told.invariant.look c.in_err-is_recorded.ensures.look
+    (g.S.Session.state c.args.conn.now) (g.S.Session.state c.loop-told.conn) (g.S.Session.state c.is_recorded.new.conn) c.loop-told.invariant.look c.in_err-is_recorded.ensures.look
 
 pub returns-in_err-is_recorded-clause-read : goal.returns-in_err-is_recorded-clause-read
 returns-in_err-is_recorded-clause-read g c =
@@ -41,9 +40,9 @@ returns-in_err-is_recorded-clause-read g c =
 
 pub loop-told-preserved : goal.loop-told-preserved
 loop-told-preserved g c =
-    let s0 = state g.S.Store c.args.conn.now in
-    let s1 = state g.S.Store c.loop-told.conn in
-    let s2 = state g.S.Store c.is_recorded.new.conn in
+    let s0 = g.S.Session.state c.args.conn.now in
+    let s1 = g.S.Session.state c.loop-told.conn in
+    let s2 = g.S.Session.state c.is_recorded.new.conn in
     let v0 = g.R.Register.view c.args.register.now in
     let v1 = g.R.Register.view c.loop-told.register in
     let v2 = g.R.Register.view c.holding_after.new.self in
@@ -84,7 +83,7 @@ returns-then-not-branch-clause-exact g c = λ clean is_open has honest sure all 
     let i = c.loop-told.invariant in
     let so = c.in_ok-is_recorded.ensures in
     let read02 : HasRead v0 v2 = read_more c.in_ok-holding.field-0 v0 v1 v2 i.read c.in_ok-holding.ensures.read in
-    sym c.if-not-branch.true ∙ found_so (state g.S.Store c.args.conn.now) (state g.S.Store c.loop-told.conn) (state g.S.Store c.is_recorded.new.conn)
+    sym c.if-not-branch.true ∙ found_so (g.S.Session.state c.args.conn.now) (g.S.Session.state c.loop-told.conn) (g.S.Session.state c.is_recorded.new.conn)
     v0 v2 (g.R.Register.view c.is_recorded.new.register) i.look read02 so.look.later so.read.later SaysAll so.exact clean is_open has honest sure all
 
 pub returns-clause-exact : goal.returns-clause-exact
@@ -109,10 +108,10 @@ pub returns-in_err-holding-clause-exact : goal.returns-in_err-holding-clause-exa
 returns-in_err-holding-clause-exact g c = λ clean is_open has honest sure all few. none_told (Register c.in_err-holding.field-0.0) c.from_residual.result c.from_residual.ensures.1 _
 
 pub returns-in_err-holding-clause-look : goal.returns-in_err-holding-clause-look
-returns-in_err-holding-clause-look g c = look_unasked c.in_err-holding.field-0.0 c.from_residual.result c.from_residual.ensures.1 (state g.S.Store c.args.conn.now) (state g.S.Store c.loop-told.conn) c.loop-told.invariant.look
+returns-in_err-holding-clause-look g c = look_unasked c.in_err-holding.field-0.0 c.from_residual.result c.from_residual.ensures.1 (g.S.Session.state c.args.conn.now) (g.S.Session.state c.loop-told.conn) c.loop-told.invariant.look
 
 pub returns-in_err-holding-clause-blame : goal.returns-in_err-holding-clause-blame
-returns-in_err-holding-clause-blame g c = λ clean is_open has amounts. cause_unasked c.in_err-holding.field-0.0 c.from_residual.result c.from_residual.ensures.1 (state g.S.Store c.args.conn.now) (state g.S.Store c.loop-told.conn)
+returns-in_err-holding-clause-blame g c = λ clean is_open has amounts. cause_unasked c.in_err-holding.field-0.0 c.from_residual.result c.from_residual.ensures.1 (g.S.Session.state c.args.conn.now) (g.S.Session.state c.loop-told.conn)
 
 pub returns-in_err-holding-clause-read : goal.returns-in_err-holding-clause-read
 returns-in_err-holding-clause-read g c = read_fault_later c.in_err-holding.field-0.0 c.from_residual.result c.from_residual.ensures.1 (g.R.Register.view c.args.register.now) (g.R.Register.view c.loop-told.register) (g.R.Register.view c.holding_after.new.self) c.loop-told.invariant.read c.in_err-holding.ensures.read
@@ -127,10 +126,10 @@ pub returns-in_err-is_recorded-clause-exact : goal.returns-in_err-is_recorded-cl
 returns-in_err-is_recorded-clause-exact g c = λ clean is_open has honest sure all few. none_told c.in_err-is_recorded.field-0.0 c.from_residual-in_err-is_recorded.result c.from_residual-in_err-is_recorded.ensures.1 _
 
 pub returns-in_err-is_recorded-clause-blame : goal.returns-in_err-is_recorded-clause-blame
-returns-in_err-is_recorded-clause-blame g c = cause_later_so AreAmounts c.in_err-is_recorded.field-0.0 c.from_residual-in_err-is_recorded.result c.from_residual-in_err-is_recorded.ensures.1 (state g.S.Store c.args.conn.now) (state g.S.Store c.loop-told.conn) (state g.S.Store c.is_recorded.new.conn) c.loop-told.invariant.look c.in_err-is_recorded.ensures.look.later c.in_err-is_recorded.ensures.blame
+returns-in_err-is_recorded-clause-blame g c = cause_later_so AreAmounts c.in_err-is_recorded.field-0.0 c.from_residual-in_err-is_recorded.result c.from_residual-in_err-is_recorded.ensures.1 (g.S.Session.state c.args.conn.now) (g.S.Session.state c.loop-told.conn) (g.S.Session.state c.is_recorded.new.conn) c.loop-told.invariant.look c.in_err-is_recorded.ensures.look.later c.in_err-is_recorded.ensures.blame
 
 pub returns-then-not-branch-clause-look : goal.returns-then-not-branch-clause-look
-returns-then-not-branch-clause-look g c = look_more tt (state g.S.Store c.args.conn.now) (state g.S.Store c.loop-told.conn) (state g.S.Store c.is_recorded.new.conn) c.loop-told.invariant.look c.in_ok-is_recorded.ensures.look
+returns-then-not-branch-clause-look g c = look_more tt (g.S.Session.state c.args.conn.now) (g.S.Session.state c.loop-told.conn) (g.S.Session.state c.is_recorded.new.conn) c.loop-told.invariant.look c.in_ok-is_recorded.ensures.look
 
 pub returns-then-not-branch-clause-read : goal.returns-then-not-branch-clause-read
 returns-then-not-branch-clause-read g c =
@@ -146,10 +145,10 @@ pub returns-in_err-beyond-clause-exact : goal.returns-in_err-beyond-clause-exact
 returns-in_err-beyond-clause-exact g c = λ clean is_open has honest sure all few. none_told (Register c.in_err-beyond.field-0.0) c.from_residual-in_err-beyond.result c.from_residual-in_err-beyond.ensures.1 _
 
 pub returns-in_err-beyond-clause-look : goal.returns-in_err-beyond-clause-look
-returns-in_err-beyond-clause-look g c = look_unasked c.in_err-beyond.field-0.0 c.from_residual-in_err-beyond.result c.from_residual-in_err-beyond.ensures.1 (state g.S.Store c.args.conn.now) (state g.S.Store c.loop-told.conn) c.loop-told.invariant.look
+returns-in_err-beyond-clause-look g c = look_unasked c.in_err-beyond.field-0.0 c.from_residual-in_err-beyond.result c.from_residual-in_err-beyond.ensures.1 (g.S.Session.state c.args.conn.now) (g.S.Session.state c.loop-told.conn) c.loop-told.invariant.look
 
 pub returns-in_err-beyond-clause-blame : goal.returns-in_err-beyond-clause-blame
-returns-in_err-beyond-clause-blame g c = λ clean is_open has amounts. cause_unasked c.in_err-beyond.field-0.0 c.from_residual-in_err-beyond.result c.from_residual-in_err-beyond.ensures.1 (state g.S.Store c.args.conn.now) (state g.S.Store c.loop-told.conn)
+returns-in_err-beyond-clause-blame g c = λ clean is_open has amounts. cause_unasked c.in_err-beyond.field-0.0 c.from_residual-in_err-beyond.result c.from_residual-in_err-beyond.ensures.1 (g.S.Session.state c.args.conn.now) (g.S.Session.state c.loop-told.conn)
 
 pub returns-in_err-beyond-clause-read : goal.returns-in_err-beyond-clause-read
 returns-in_err-beyond-clause-read g c = read_fault_later c.in_err-beyond.field-0.0 c.from_residual-in_err-beyond.result c.from_residual-in_err-beyond.ensures.1 (g.R.Register.view c.args.register.now) (g.R.Register.view c.loop-told.register) _ c.loop-told.invariant.read c.in_err-beyond.ensures.read
@@ -164,7 +163,7 @@ returns-clause-says g c = λ clean is_open has honest sure amounts yes.
     let honest1 = found.read.later.honest honest in
     let next1 = found.value honest (i.read.ok.sure honest1 sure) (idle_goes v1.stage (read_idle v0 v1 i.read c.requires.stage)) in
     let next = subst (λ (x : Content). IsHoldingAfter x c.args.account c.loop-told.last beyond) (i.read.same honest1 sure) next1 in
-    no_more (state g.S.Store c.args.conn.now).now v0.content c.args.account c.loop-told.last (i.said clean is_open has honest1 sure amounts)
+    no_more (g.S.Session.state c.args.conn.now).now v0.content c.args.account c.loop-told.last (i.said clean is_open has honest1 sure amounts)
     (none_left v0.content c.args.account c.loop-told.last beyond c.is_none.result c.is_none.ensures yes next)
 
 pub returns-clause-read : goal.returns-clause-read

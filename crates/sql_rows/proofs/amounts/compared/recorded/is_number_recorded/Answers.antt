@@ -1,4 +1,3 @@
-use Rattle.sqlite.specs.Held.{state}
 use Rattle.sql_tables.specs.Audits.{of_register}
 use Rattle.sql_tables.specs.declared.fault.AuditFault.TheVariants.{Register}
 use Rattle.sql_tables.proofs.LookLemmas.{look_none}
@@ -20,10 +19,10 @@ pub returns-in_err-entry-clause-exact : goal.returns-in_err-entry-clause-exact
 returns-in_err-entry-clause-exact g c = λ clean is_open has honest sure all few. none_told (Register c.in_err-entry.field-0.0) c.from_residual.result c.from_residual.ensures.1 _
 
 pub returns-in_err-entry-clause-look : goal.returns-in_err-entry-clause-look
-returns-in_err-entry-clause-look g c = look_unasked c.in_err-entry.field-0.0 c.from_residual.result c.from_residual.ensures.1 (state g.S.Store c.args.conn.now) (state g.S.Store c.args.conn.now) (look_none tt (state g.S.Store c.args.conn.now))
+returns-in_err-entry-clause-look g c = look_unasked c.in_err-entry.field-0.0 c.from_residual.result c.from_residual.ensures.1 (g.S.Session.state c.args.conn.now) (g.S.Session.state c.args.conn.now) (look_none tt (g.S.Session.state c.args.conn.now))
 
 pub returns-in_err-entry-clause-blame : goal.returns-in_err-entry-clause-blame
-returns-in_err-entry-clause-blame g c = λ clean is_open has amounts. cause_unasked c.in_err-entry.field-0.0 c.from_residual.result c.from_residual.ensures.1 (state g.S.Store c.args.conn.now) (state g.S.Store c.args.conn.now)
+returns-in_err-entry-clause-blame g c = λ clean is_open has amounts. cause_unasked c.in_err-entry.field-0.0 c.from_residual.result c.from_residual.ensures.1 (g.S.Session.state c.args.conn.now) (g.S.Session.state c.args.conn.now)
 
 pub returns-in_err-entry-clause-read : goal.returns-in_err-entry-clause-read
 returns-in_err-entry-clause-read g c = read_fault c.in_err-entry.field-0.0 c.from_residual.result c.from_residual.ensures.1 (g.R.Register.view c.args.register.now) (g.R.Register.view c.entry.new.self) c.in_err-entry.ensures.read
@@ -32,7 +31,7 @@ pub is_entry_recorded-requires : goal.is_entry_recorded-requires
 is_entry_recorded-requires g c = record { stage = read_idle (g.R.Register.view c.args.register.now) (g.R.Register.view c.entry.new.self) (read_one c.in_ok-entry.entry (g.R.Register.view c.args.register.now) (g.R.Register.view c.entry.new.self) c.in_ok-entry.ensures.read) c.requires.stage }
 
 pub returns-in-None-clause-look : goal.returns-in-None-clause-look
-returns-in-None-clause-look g c = look_none tt (state g.S.Store c.args.conn.now)
+returns-in-None-clause-look g c = look_none tt (g.S.Session.state c.args.conn.now)
 
 pub returns-in-None-clause-read : goal.returns-in-None-clause-read
 returns-in-None-clause-read g c = read_one c.in_ok-entry.entry (g.R.Register.view c.args.register.now) (g.R.Register.view c.entry.new.self) c.in_ok-entry.ensures.read

@@ -1,6 +1,5 @@
-use Rattle.sqlite.specs.Held.{state}
 use Rattle.sql_rows.proofs.AmountWalkLemmas.{each_paid}
 use Rattle.sql_rows.proofs.amounts.compared.recorded.is_paid_recorded.Goals as goal
 
 pub returns-clause-says : goal.returns-clause-says
-returns-clause-says g c = λ clean is_open has honest sure amounts. each_paid (state g.S.Store c.args.conn.now).now (g.R.Register.view c.args.register.now).content c.are_paid_recorded.result (c.are_paid_recorded.ensures.says clean is_open has honest sure amounts)
+returns-clause-says g c = λ clean is_open has honest sure amounts. each_paid (g.S.Session.state c.args.conn.now).now (g.R.Register.view c.args.register.now).content c.are_paid_recorded.result (c.are_paid_recorded.ensures.says clean is_open has honest sure amounts)

@@ -1,5 +1,4 @@
 use Rattle.std.proofs.Common.{subst, sym}
-use Rattle.sqlite.specs.Held.{state}
 use Rattle.desk_register.proofs.ReadLemmas.{read_one}
 use Rattle.sql_tables.specs.declared.fault.AuditFault.TheVariants.{Register, Tables}
 use Rattle.sql_tables.proofs.LookLemmas.{look_ok}
@@ -14,10 +13,10 @@ pub returns-in_err-recorded-clause-exact : goal.returns-in_err-recorded-clause-e
 returns-in_err-recorded-clause-exact g c = λ clean is_open has honest sure all. none_told (Tables c.in_err-recorded.field-0.0) c.from_residual.result c.from_residual.ensures.1 _
 
 pub returns-in_err-recorded-clause-look : goal.returns-in_err-recorded-clause-look
-returns-in_err-recorded-clause-look g c = look_error c.in_err-recorded.field-0.0 c.from_residual.result c.from_residual.ensures.1 (state g.S.Store c.args.conn.now) (state g.S.Store c.amount.new.conn) c.in_err-recorded.ensures.look
+returns-in_err-recorded-clause-look g c = look_error c.in_err-recorded.field-0.0 c.from_residual.result c.from_residual.ensures.1 (g.S.Session.state c.args.conn.now) (g.S.Session.state c.amount.new.conn) c.in_err-recorded.ensures.look
 
 pub returns-in_err-recorded-clause-blame : goal.returns-in_err-recorded-clause-blame
-returns-in_err-recorded-clause-blame g c = λ clean is_open has amounts. cause_error c.in_err-recorded.field-0.0 c.from_residual.result c.from_residual.ensures.1 (state g.S.Store c.args.conn.now) (state g.S.Store c.amount.new.conn) (c.in_err-recorded.ensures.blame clean is_open has amounts)
+returns-in_err-recorded-clause-blame g c = λ clean is_open has amounts. cause_error c.in_err-recorded.field-0.0 c.from_residual.result c.from_residual.ensures.1 (g.S.Session.state c.args.conn.now) (g.S.Session.state c.amount.new.conn) (c.in_err-recorded.ensures.blame clean is_open has amounts)
 
 pub returns-in_err-recorded-clause-read : goal.returns-in_err-recorded-clause-read
 returns-in_err-recorded-clause-read g c = read_unasked c.in_err-recorded.field-0.0 c.from_residual.result c.from_residual.ensures.1 (g.R.Register.view c.args.register.now)
@@ -29,10 +28,10 @@ pub returns-in_err-so-clause-exact : goal.returns-in_err-so-clause-exact
 returns-in_err-so-clause-exact g c = λ clean is_open has honest sure all. none_told (Register c.in_err-so.field-0.0) c.from_residual-in_err-so.result c.from_residual-in_err-so.ensures.1 _
 
 pub returns-in_err-so-clause-look : goal.returns-in_err-so-clause-look
-returns-in_err-so-clause-look g c = look_unasked c.in_err-so.field-0.0 c.from_residual-in_err-so.result c.from_residual-in_err-so.ensures.1 (state g.S.Store c.args.conn.now) (state g.S.Store c.amount.new.conn) (look_ok c.in_ok-recorded.recorded tt (state g.S.Store c.args.conn.now) (state g.S.Store c.amount.new.conn) c.in_ok-recorded.ensures.look)
+returns-in_err-so-clause-look g c = look_unasked c.in_err-so.field-0.0 c.from_residual-in_err-so.result c.from_residual-in_err-so.ensures.1 (g.S.Session.state c.args.conn.now) (g.S.Session.state c.amount.new.conn) (look_ok c.in_ok-recorded.recorded tt (g.S.Session.state c.args.conn.now) (g.S.Session.state c.amount.new.conn) c.in_ok-recorded.ensures.look)
 
 pub returns-in_err-so-clause-blame : goal.returns-in_err-so-clause-blame
-returns-in_err-so-clause-blame g c = λ clean is_open has amounts. cause_unasked c.in_err-so.field-0.0 c.from_residual-in_err-so.result c.from_residual-in_err-so.ensures.1 (state g.S.Store c.args.conn.now) (state g.S.Store c.amount.new.conn)
+returns-in_err-so-clause-blame g c = λ clean is_open has amounts. cause_unasked c.in_err-so.field-0.0 c.from_residual-in_err-so.result c.from_residual-in_err-so.ensures.1 (g.S.Session.state c.args.conn.now) (g.S.Session.state c.amount.new.conn)
 
 pub returns-in_err-so-clause-read : goal.returns-in_err-so-clause-read
 returns-in_err-so-clause-read g c = read_fault c.in_err-so.field-0.0 c.from_residual-in_err-so.result c.from_residual-in_err-so.ensures.1 (g.R.Register.view c.args.register.now) (g.R.Register.view c.is_said.new.register) c.in_err-so.ensures.read
@@ -46,7 +45,7 @@ returns-clause-exact g c = λ clean is_open has honest sure all.
     c.in_ok-so.ensures.exact honest sure (subst (IsSaid (g.R.Register.view c.args.register.now).content c.args.key.now) (sym (c.in_ok-recorded.ensures.value clean is_open has all.amounts)) (all.each c.args.key.now))
 
 pub returns-clause-look : goal.returns-clause-look
-returns-clause-look g c = look_ok c.in_ok-recorded.recorded tt (state g.S.Store c.args.conn.now) (state g.S.Store c.amount.new.conn) c.in_ok-recorded.ensures.look
+returns-clause-look g c = look_ok c.in_ok-recorded.recorded tt (g.S.Session.state c.args.conn.now) (g.S.Session.state c.amount.new.conn) c.in_ok-recorded.ensures.look
 
 pub returns-clause-read : goal.returns-clause-read
 returns-clause-read g c = read_one c.in_ok-so.so (g.R.Register.view c.args.register.now) (g.R.Register.view c.is_said.new.register) c.in_ok-so.ensures.read

@@ -1,6 +1,5 @@
 use Rattle.std.proofs.Common.{IfOk, IsTrue, sym, ◌∙◌}
 use Rattle.sqlite.specs.Effect.{Database}
-use Rattle.sqlite.specs.Held.{state}
 use Rattle.desk_rules.specs.Content.{Content}
 use Rattle.sql_rows.specs.declared.amounts.key.Ledger.{Ledger}
 use Rattle.sql_rows.specs.declared.amounts.key.Ledger.TheVariants.{Balance, Cash, Total}
@@ -23,13 +22,13 @@ Says ledger db content = AreInOrder desk_schema db.trees → AreAllFormed db.tre
 
 pub returns-clause-says : goal.returns-clause-says
 returns-clause-says g c = λ clean is_open has honest sure order formed.
-    let s0 = state g.S.Store c.args.conn.now in
+    let s0 = g.S.Session.state c.args.conn.now in
     let v0 = g.R.Register.view c.args.register.now in
     let one = c.in_ok-is_true_table.ensures in
     let two = c.in_ok-is_true_table-2.ensures in
     let three = c.is_true_table-3.ensures in
     let r = c.is_true_table-3.result in
-    let all = in_three s0 (state g.S.Store c.is_true_table.new.conn) (state g.S.Store c.is_true_table-2.new.conn) (state g.S.Store c.is_true_table-3.new.conn)
+    let all = in_three s0 (g.S.Session.state c.is_true_table.new.conn) (g.S.Session.state c.is_true_table-2.new.conn) (g.S.Session.state c.is_true_table-3.new.conn)
     v0 (g.R.Register.view c.is_true_table.new.register) (g.R.Register.view c.is_true_table-2.new.register) (g.R.Register.view c.is_true_table-3.new.register)
     one.look one.read two.look two.read three.look.later three.read.later
     (Says Balance) (Says Cash) (λ db content. AreInOrder desk_schema db.trees → AreAllFormed db.trees → IfOk r (λ so. IsTrue so → IsTrueTable db content Total))
@@ -50,15 +49,15 @@ pub returns-then-not-branch-2-clause-exact : goal.returns-then-not-branch-2-clau
 returns-then-not-branch-2-clause-exact g c = λ clean is_open has honest sure so can.
     let one = c.in_ok-is_true_table.ensures in
     let two = c.in_ok-is_true_table-2.ensures in
-    sym c.if-not-branch-2.true ∙ moved (state g.S.Store c.args.conn.now) (state g.S.Store c.is_true_table.new.conn) (state g.S.Store c.is_true_table-2.new.conn)
+    sym c.if-not-branch-2.true ∙ moved (g.S.Session.state c.args.conn.now) (g.S.Session.state c.is_true_table.new.conn) (g.S.Session.state c.is_true_table-2.new.conn)
     (g.R.Register.view c.args.register.now) (g.R.Register.view c.is_true_table.new.register) (g.R.Register.view c.is_true_table-2.new.register) two.look.later two.read.later
     (Finds Cash _) one.look one.read two.exact clean is_open has honest sure so.cash can
 
 pub returns-clause-exact : goal.returns-clause-exact
 returns-clause-exact g c = λ clean is_open has honest sure so can.
-    let s0 = state g.S.Store c.args.conn.now in
-    let s1 = state g.S.Store c.is_true_table.new.conn in
-    let s2 = state g.S.Store c.is_true_table-2.new.conn in
+    let s0 = g.S.Session.state c.args.conn.now in
+    let s1 = g.S.Session.state c.is_true_table.new.conn in
+    let s2 = g.S.Session.state c.is_true_table-2.new.conn in
     let v0 = g.R.Register.view c.args.register.now in
     let v1 = g.R.Register.view c.is_true_table.new.register in
     let v2 = g.R.Register.view c.is_true_table-2.new.register in
@@ -67,7 +66,7 @@ returns-clause-exact g c = λ clean is_open has honest sure so can.
     let three = c.is_true_table-3.ensures in
     let looked : HasLooked s0 s2 = look_more tt s0 s1 s2 one.look two.look in
     let read : HasRead v0 v2 = read_more tt v0 v1 v2 one.read two.read in
-    moved s0 s2 (state g.S.Store c.is_true_table-3.new.conn) v0 v2 (g.R.Register.view c.is_true_table-3.new.register) three.look.later three.read.later
+    moved s0 s2 (g.S.Session.state c.is_true_table-3.new.conn) v0 v2 (g.R.Register.view c.is_true_table-3.new.register) three.look.later three.read.later
     (Finds Total _) looked read three.exact clean is_open has honest sure so.total can
 
 pub is_true_table-requires-2 : goal.is_true_table-requires-2
@@ -87,13 +86,13 @@ pub returns-in_err-is_true_table-clause-exact : goal.returns-in_err-is_true_tabl
 returns-in_err-is_true_table-clause-exact g c = λ clean is_open has honest sure so can. none_told c.in_err-is_true_table.field-0.0 c.from_residual.result c.from_residual.ensures.1 _
 
 pub returns-in_err-is_true_table-clause-look : goal.returns-in_err-is_true_table-clause-look
-returns-in_err-is_true_table-clause-look g c = look_first c.in_err-is_true_table.field-0.0 c.from_residual.result c.from_residual.ensures.1 (state g.S.Store c.args.conn.now) (state g.S.Store c.is_true_table.new.conn) c.in_err-is_true_table.ensures.look
+returns-in_err-is_true_table-clause-look g c = look_first c.in_err-is_true_table.field-0.0 c.from_residual.result c.from_residual.ensures.1 (g.S.Session.state c.args.conn.now) (g.S.Session.state c.is_true_table.new.conn) c.in_err-is_true_table.ensures.look
 
 pub returns-in_err-is_true_table-clause-read : goal.returns-in_err-is_true_table-clause-read
 returns-in_err-is_true_table-clause-read g c = read_first c.in_err-is_true_table.field-0.0 c.from_residual.result c.from_residual.ensures.1 (g.R.Register.view c.args.register.now) (g.R.Register.view c.is_true_table.new.register) c.in_err-is_true_table.ensures.read
 
 pub returns-in_err-is_true_table-clause-blame : goal.returns-in_err-is_true_table-clause-blame
-returns-in_err-is_true_table-clause-blame g c = λ clean is_open has. cause_first c.in_err-is_true_table.field-0.0 c.from_residual.result c.from_residual.ensures.1 (state g.S.Store c.args.conn.now) (state g.S.Store c.is_true_table.new.conn) (c.in_err-is_true_table.ensures.blame clean is_open has)
+returns-in_err-is_true_table-clause-blame g c = λ clean is_open has. cause_first c.in_err-is_true_table.field-0.0 c.from_residual.result c.from_residual.ensures.1 (g.S.Session.state c.args.conn.now) (g.S.Session.state c.is_true_table.new.conn) (c.in_err-is_true_table.ensures.blame clean is_open has)
 
 pub returns-in_err-is_true_table-2-clause-says : goal.returns-in_err-is_true_table-2-clause-says
 returns-in_err-is_true_table-2-clause-says g c = λ clean is_open has honest sure order formed. none_told c.in_err-is_true_table-2.field-0.0 c.from_residual-in_err-is_true_table-2.result c.from_residual-in_err-is_true_table-2.ensures.1 _
@@ -102,33 +101,33 @@ pub returns-in_err-is_true_table-2-clause-exact : goal.returns-in_err-is_true_ta
 returns-in_err-is_true_table-2-clause-exact g c = λ clean is_open has honest sure so can. none_told c.in_err-is_true_table-2.field-0.0 c.from_residual-in_err-is_true_table-2.result c.from_residual-in_err-is_true_table-2.ensures.1 _
 
 pub returns-in_err-is_true_table-2-clause-look : goal.returns-in_err-is_true_table-2-clause-look
-returns-in_err-is_true_table-2-clause-look g c = look_failed c.in_err-is_true_table-2.field-0.0 c.from_residual-in_err-is_true_table-2.result c.from_residual-in_err-is_true_table-2.ensures.1 (state g.S.Store c.args.conn.now) (state g.S.Store c.is_true_table.new.conn) (state g.S.Store c.is_true_table-2.new.conn) c.in_ok-is_true_table.ensures.look c.in_err-is_true_table-2.ensures.look
+returns-in_err-is_true_table-2-clause-look g c = look_failed c.in_err-is_true_table-2.field-0.0 c.from_residual-in_err-is_true_table-2.result c.from_residual-in_err-is_true_table-2.ensures.1 (g.S.Session.state c.args.conn.now) (g.S.Session.state c.is_true_table.new.conn) (g.S.Session.state c.is_true_table-2.new.conn) c.in_ok-is_true_table.ensures.look c.in_err-is_true_table-2.ensures.look
 
 pub returns-in_err-is_true_table-2-clause-read : goal.returns-in_err-is_true_table-2-clause-read
 returns-in_err-is_true_table-2-clause-read g c = read_failed c.in_err-is_true_table-2.field-0.0 c.from_residual-in_err-is_true_table-2.result c.from_residual-in_err-is_true_table-2.ensures.1 (g.R.Register.view c.args.register.now) (g.R.Register.view c.is_true_table.new.register) (g.R.Register.view c.is_true_table-2.new.register) c.in_ok-is_true_table.ensures.read c.in_err-is_true_table-2.ensures.read
 
 pub returns-in_err-is_true_table-2-clause-blame : goal.returns-in_err-is_true_table-2-clause-blame
-returns-in_err-is_true_table-2-clause-blame g c = cause_later c.in_err-is_true_table-2.field-0.0 c.from_residual-in_err-is_true_table-2.result c.from_residual-in_err-is_true_table-2.ensures.1 (state g.S.Store c.args.conn.now) (state g.S.Store c.is_true_table.new.conn) (state g.S.Store c.is_true_table-2.new.conn) c.in_ok-is_true_table.ensures.look c.in_err-is_true_table-2.ensures.look.later c.in_err-is_true_table-2.ensures.blame
+returns-in_err-is_true_table-2-clause-blame g c = cause_later c.in_err-is_true_table-2.field-0.0 c.from_residual-in_err-is_true_table-2.result c.from_residual-in_err-is_true_table-2.ensures.1 (g.S.Session.state c.args.conn.now) (g.S.Session.state c.is_true_table.new.conn) (g.S.Session.state c.is_true_table-2.new.conn) c.in_ok-is_true_table.ensures.look c.in_err-is_true_table-2.ensures.look.later c.in_err-is_true_table-2.ensures.blame
 
 pub returns-then-not-branch-2-clause-look : goal.returns-then-not-branch-2-clause-look
-returns-then-not-branch-2-clause-look g c = look_more tt (state g.S.Store c.args.conn.now) (state g.S.Store c.is_true_table.new.conn) (state g.S.Store c.is_true_table-2.new.conn) c.in_ok-is_true_table.ensures.look c.in_ok-is_true_table-2.ensures.look
+returns-then-not-branch-2-clause-look g c = look_more tt (g.S.Session.state c.args.conn.now) (g.S.Session.state c.is_true_table.new.conn) (g.S.Session.state c.is_true_table-2.new.conn) c.in_ok-is_true_table.ensures.look c.in_ok-is_true_table-2.ensures.look
 
 pub returns-then-not-branch-2-clause-read : goal.returns-then-not-branch-2-clause-read
 returns-then-not-branch-2-clause-read g c = read_more tt (g.R.Register.view c.args.register.now) (g.R.Register.view c.is_true_table.new.register) (g.R.Register.view c.is_true_table-2.new.register) c.in_ok-is_true_table.ensures.read c.in_ok-is_true_table-2.ensures.read
 
 pub returns-clause-look : goal.returns-clause-look
 returns-clause-look g c =
-    let s0 = state g.S.Store c.args.conn.now in
-    let s2 = state g.S.Store c.is_true_table-2.new.conn in
-    let looked : HasLooked s0 s2 = look_more tt s0 (state g.S.Store c.is_true_table.new.conn) s2 c.in_ok-is_true_table.ensures.look c.in_ok-is_true_table-2.ensures.look in
-    look_then tt (of_tables c.is_true_table-3.result) s0 s2 (state g.S.Store c.is_true_table-3.new.conn) looked c.is_true_table-3.ensures.look
+    let s0 = g.S.Session.state c.args.conn.now in
+    let s2 = g.S.Session.state c.is_true_table-2.new.conn in
+    let looked : HasLooked s0 s2 = look_more tt s0 (g.S.Session.state c.is_true_table.new.conn) s2 c.in_ok-is_true_table.ensures.look c.in_ok-is_true_table-2.ensures.look in
+    look_then tt (of_tables c.is_true_table-3.result) s0 s2 (g.S.Session.state c.is_true_table-3.new.conn) looked c.is_true_table-3.ensures.look
 
 pub returns-clause-blame : goal.returns-clause-blame
 returns-clause-blame g c =
-    let s0 = state g.S.Store c.args.conn.now in
-    let s2 = state g.S.Store c.is_true_table-2.new.conn in
-    let looked : HasLooked s0 s2 = look_more tt s0 (state g.S.Store c.is_true_table.new.conn) s2 c.in_ok-is_true_table.ensures.look c.in_ok-is_true_table-2.ensures.look in
-    cause_after (of_tables c.is_true_table-3.result) s0 s2 (state g.S.Store c.is_true_table-3.new.conn) looked c.is_true_table-3.ensures.look.later c.is_true_table-3.ensures.blame
+    let s0 = g.S.Session.state c.args.conn.now in
+    let s2 = g.S.Session.state c.is_true_table-2.new.conn in
+    let looked : HasLooked s0 s2 = look_more tt s0 (g.S.Session.state c.is_true_table.new.conn) s2 c.in_ok-is_true_table.ensures.look c.in_ok-is_true_table-2.ensures.look in
+    cause_after (of_tables c.is_true_table-3.result) s0 s2 (g.S.Session.state c.is_true_table-3.new.conn) looked c.is_true_table-3.ensures.look.later c.is_true_table-3.ensures.blame
 
 pub returns-clause-read : goal.returns-clause-read
 returns-clause-read g c =

@@ -1,6 +1,5 @@
 use Rattle.std.proofs.Common.{◌≡◌, ◌==◌, ◌↔◌, [], filter, ap, subst, ◌∙◌, arith}
 use Rattle.sqlite.specs.Effect.{Database}
-use Rattle.sqlite.specs.Held.{state}
 use Rattle.sqlite.specs.State.{HasCleanDisk}
 use Rattle.sql_tables.specs.Ends.{ForCause, IsSame}
 use Rattle.sql_tables.specs.Schema.{desk_schema}
@@ -15,28 +14,28 @@ pub returns-in_err-rows_above-clause-none : goal.returns-in_err-rows_above-claus
 returns-in_err-rows_above-clause-none g c = λ clean is_open has. no_value c.in_err-rows_above.field-0.0 c.from_residual.result c.from_residual.ensures.1 _
 
 pub returns-in_err-rows_above-clause-look : goal.returns-in_err-rows_above-clause-look
-returns-in_err-rows_above-clause-look g c = look_handed c.in_err-rows_above.field-0.0 c.from_residual.result c.from_residual.ensures.1 (state g.S.Store c.args.conn.now) (state g.S.Store c.rows_above.new.conn) c.in_err-rows_above.ensures.look
+returns-in_err-rows_above-clause-look g c = look_handed c.in_err-rows_above.field-0.0 c.from_residual.result c.from_residual.ensures.1 (g.S.Session.state c.args.conn.now) (g.S.Session.state c.rows_above.new.conn) c.in_err-rows_above.ensures.look
 
 pub returns-in_err-rows_above-clause-blame : goal.returns-in_err-rows_above-clause-blame
-returns-in_err-rows_above-clause-blame g c = λ clean is_open has. on_error c.from_residual.result c.in_err-rows_above.field-0.0 (ForCause (state g.S.Store c.args.conn.now) (state g.S.Store c.rows_above.new.conn)) c.from_residual.ensures.1 (c.in_err-rows_above.ensures.blame clean is_open has)
+returns-in_err-rows_above-clause-blame g c = λ clean is_open has. on_error c.from_residual.result c.in_err-rows_above.field-0.0 (ForCause (g.S.Session.state c.args.conn.now) (g.S.Session.state c.rows_above.new.conn)) c.from_residual.ensures.1 (c.in_err-rows_above.ensures.blame clean is_open has)
 
 pub returns-then-not-is_empty-clause-none : goal.returns-then-not-is_empty-clause-none
-returns-then-not-is_empty-clause-none g c = λ clean is_open has. some_other ((state g.S.Store c.args.conn.now).now.trees 9) c.args.count _ c.is_empty.result (c.in_ok-rows_above.ensures.shown clean is_open has) (c.is_empty.ensures ∙ ap (λ n. n == 0) c.in_ok-rows_above.field-0.ok.0) c.if-not-is_empty.true
+returns-then-not-is_empty-clause-none g c = λ clean is_open has. some_other ((g.S.Session.state c.args.conn.now).now.trees 9) c.args.count _ c.is_empty.result (c.in_ok-rows_above.ensures.shown clean is_open has) (c.is_empty.ensures ∙ ap (λ n. n == 0) c.in_ok-rows_above.field-0.ok.0) c.if-not-is_empty.true
 
 pub returns-then-not-is_empty-clause-look : goal.returns-then-not-is_empty-clause-look
-returns-then-not-is_empty-clause-look g c = look_ok _ _ (state g.S.Store c.args.conn.now) (state g.S.Store c.rows_above.new.conn) c.in_ok-rows_above.ensures.look
+returns-then-not-is_empty-clause-look g c = look_ok _ _ (g.S.Session.state c.args.conn.now) (g.S.Session.state c.rows_above.new.conn) c.in_ok-rows_above.ensures.look
 
 pub returns-in_err-rows_below-clause-none : goal.returns-in_err-rows_below-clause-none
 returns-in_err-rows_below-clause-none g c = λ clean is_open has. no_value c.in_err-rows_below.field-0.0 c.from_residual-in_err-rows_below.result c.from_residual-in_err-rows_below.ensures.1 _
 
 pub returns-in_err-rows_below-clause-look : goal.returns-in_err-rows_below-clause-look
-returns-in_err-rows_below-clause-look g c = look_failed c.in_err-rows_below.field-0.0 c.from_residual-in_err-rows_below.result c.from_residual-in_err-rows_below.ensures.1 (state g.S.Store c.args.conn.now) (state g.S.Store c.rows_above.new.conn) (state g.S.Store c.rows_below.new.conn) (look_ok _ tt (state g.S.Store c.args.conn.now) (state g.S.Store c.rows_above.new.conn) c.in_ok-rows_above.ensures.look) c.in_err-rows_below.ensures.look
+returns-in_err-rows_below-clause-look g c = look_failed c.in_err-rows_below.field-0.0 c.from_residual-in_err-rows_below.result c.from_residual-in_err-rows_below.ensures.1 (g.S.Session.state c.args.conn.now) (g.S.Session.state c.rows_above.new.conn) (g.S.Session.state c.rows_below.new.conn) (look_ok _ tt (g.S.Session.state c.args.conn.now) (g.S.Session.state c.rows_above.new.conn) c.in_ok-rows_above.ensures.look) c.in_err-rows_below.ensures.look
 
 pub returns-in_err-rows_below-clause-blame : goal.returns-in_err-rows_below-clause-blame
 returns-in_err-rows_below-clause-blame g c = λ clean is_open has.
-    let s0 = state g.S.Store c.args.conn.now in
-    let s1 = state g.S.Store c.rows_above.new.conn in
-    let s2 = state g.S.Store c.rows_below.new.conn in
+    let s0 = g.S.Session.state c.args.conn.now in
+    let s1 = g.S.Session.state c.rows_above.new.conn in
+    let s2 = g.S.Session.state c.rows_below.new.conn in
     let one = c.in_ok-rows_above.ensures in
     let later = c.in_err-rows_below.ensures.look.later in
     let clean1 : HasCleanDisk s1 = (let less = later.clean in omega (arith, clean)) in
@@ -47,9 +46,9 @@ returns-in_err-rows_below-clause-blame g c = λ clean is_open has.
 
 pub returns-clause-none : goal.returns-clause-none
 returns-clause-none g c = λ clean is_open has.
-    let s0 = state g.S.Store c.args.conn.now in
-    let s1 = state g.S.Store c.rows_above.new.conn in
-    let s2 = state g.S.Store c.rows_below.new.conn in
+    let s0 = g.S.Session.state c.args.conn.now in
+    let s1 = g.S.Session.state c.rows_above.new.conn in
+    let s2 = g.S.Session.state c.rows_below.new.conn in
     let one = c.in_ok-rows_above.ensures in
     let later = c.in_ok-rows_below.ensures.look.later in
     let clean1 : HasCleanDisk s1 = (let less = later.clean in omega (arith, clean)) in
@@ -60,4 +59,4 @@ returns-clause-none g c = λ clean is_open has.
     (c.is_empty.ensures ∙ ap (λ n. n == 0) c.in_ok-rows_above.field-0.ok.0) c.if-not-is_empty.false (c.is_empty-2.ensures ∙ ap (λ n. n == 0) c.in_ok-rows_below.field-0.ok.0)
 
 pub returns-clause-look : goal.returns-clause-look
-returns-clause-look g c = look_ok _ _ (state g.S.Store c.args.conn.now) (state g.S.Store c.rows_below.new.conn) (look_more _ (state g.S.Store c.args.conn.now) (state g.S.Store c.rows_above.new.conn) (state g.S.Store c.rows_below.new.conn) (look_ok _ tt (state g.S.Store c.args.conn.now) (state g.S.Store c.rows_above.new.conn) c.in_ok-rows_above.ensures.look) c.in_ok-rows_below.ensures.look)
+returns-clause-look g c = look_ok _ _ (g.S.Session.state c.args.conn.now) (g.S.Session.state c.rows_below.new.conn) (look_more _ (g.S.Session.state c.args.conn.now) (g.S.Session.state c.rows_above.new.conn) (g.S.Session.state c.rows_below.new.conn) (look_ok _ tt (g.S.Session.state c.args.conn.now) (g.S.Session.state c.rows_above.new.conn) c.in_ok-rows_above.ensures.look) c.in_ok-rows_below.ensures.look)

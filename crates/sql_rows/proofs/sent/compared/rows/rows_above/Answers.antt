@@ -1,6 +1,5 @@
 use Rattle.std.proofs.Common.{[], ◌∷◌, pos}
 use Rattle.sqlite.specs.declared.types.Value.TheVariants.{Int}
-use Rattle.sqlite.specs.Held.{state}
 use Rattle.sql_tables.proofs.ShownLemmas.{none_shown}
 use Rattle.sql_rows.proofs.SentComparedRows.{above_caused, reads_above}
 use Rattle.sql_rows.proofs.sent.compared.rows.rows_above.Goals as goal
@@ -10,8 +9,8 @@ query-requires g c = record { query = reads_above.query }
 
 pub returns-clause-shown : goal.returns-clause-shown
 returns-clause-shown g c clean is_open has =
-    none_shown reads_above (Int (pos c.args.number) ∷ []) (state g.S.Store c.args.conn.now) (state g.S.Store c.query.new.conn) has c.query.result (rw c.integer.ensures at (c.query.ensures.shown clean))
+    none_shown reads_above (Int (pos c.args.number) ∷ []) (g.S.Session.state c.args.conn.now) (g.S.Session.state c.query.new.conn) has c.query.result (rw c.integer.ensures at (c.query.ensures.shown clean))
 
 pub returns-clause-blame : goal.returns-clause-blame
 returns-clause-blame g c clean is_open has =
-    above_caused (state g.S.Store c.args.conn.now) (state g.S.Store c.query.new.conn) has is_open (pos c.args.number) c.query.result (rw c.integer.ensures at (c.query.ensures.fails clean))
+    above_caused (g.S.Session.state c.args.conn.now) (g.S.Session.state c.query.new.conn) has is_open (pos c.args.number) c.query.result (rw c.integer.ensures at (c.query.ensures.fails clean))
