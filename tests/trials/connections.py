@@ -90,7 +90,8 @@ def trials(room):
     yield passes("a program that serves", served(room), "27 passed, 0 failed\n")
     yield fails("another answer", served(room, ANSWERED=ANSWERED + b" "), "http serve: cases/sums: not as it must be\n")
     yield fails("it listens elsewhere", served(room, ELSEWHERE=1), "http serve: cases/sums: not as it must be\n")
-    yield fails("it serves too few", served(room, FEWER=-1), "http serve: cases/sums: not as it must be\n")
+    # (its client finds it ending, or gone)
+    yield fails("it serves too few", served(room, FEWER=-1), "http serve: cases/sums: ")
     yield fails("it says more at its end", served(room, LAST="x"), "http serve: cases/sums: not as it must be\n")
     yield fails("it ends with another status", served(room, STATUS=1), "http serve: cases/sums: not as it must be\n")
     why = "http serve: a file that is no desk's: not as it must be\n"
